@@ -1,0 +1,45 @@
+-- Laws on a test over the numbers below a bound.
+use Prim.Native.Nat.{ℕ, zero, suc, _<_}
+use mathlib.Core.Bool.{Bool, true, false, true≢false, and-eq-true-iff}
+use mathlib.Core.Path.{_≡_, sym, ap, _∙_}
+use native.Mathlib.Omega.{arith}
+use borrow.Author.Tests.{eqb-true, eqb-false}
+use lib.Dec.{eqb}
+use Rattle.basics.proofs.Tests.{by}
+use Rattle.model.specs.declared.states.FoundLevel.the-variants as found
+use Rattle.model.specs.Below.{every, highest}
+
+module _ (test : ℕ → Bool) where
+  -- what holds at every number below n holds at each
+  pub every-at : (n i : ℕ) → every n test ≡ true → i < n → test i ≡ true
+  unfolding every
+  every-at zero i h k = absurd (omega arith)
+  every-at (suc n) i h k =
+      let both = and-eq-true-iff (every n test) (test n) .0 h in
+      by (eqb i n)
+      (λ e. ap test (eqb-true i n e) ∙ both .1)
+      (λ e. let d = eqb-false i n e in every-at n i (both .0) (omega arith))
+
+  -- what was found is below n, passes the test, and none above it does; it is found where any number passes
+  pub record Highest (n h : ℕ) : Type 0 where
+    pub answered : highest n test ≡ found.At (record { 0 = h })
+    pub inside : h < n
+    pub passes : test h ≡ true
+    pub above : (l : ℕ) → h < l → l < n → test l ≡ false
+
+  pub highest-is : (n i : ℕ) → i < n → test i ≡ true → (h : ℕ) × Highest n h
+  unfolding highest
+  highest-is zero i h k = absurd (omega arith)
+  highest-is (suc n) i h k =
+      by (test n)
+      (λ t. (n, record { answered = rw t; inside = omega arith; passes = t; above = λ l a b. absurd (omega arith) }))
+      (λ t. let d : i ≡ n → ⊥ = λ e. true≢false (sym k ∙ ap test e ∙ t) in
+      let r = highest-is n i (omega arith) k in (
+        r .0,
+        record {
+          answered = rw t (r .1 .answered);
+          inside = omega (arith, r .1 .inside);
+          passes = r .1 .passes;
+          above = λ l a b. by (eqb l n) (λ e. ap test (eqb-true l n e) ∙ t) (λ e. let f = eqb-false l n e in r .1 .above l a (omega arith));
+        },
+      ))

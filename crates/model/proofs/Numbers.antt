@@ -1,0 +1,61 @@
+-- Laws on the numbers given back and on a platform's answer.
+use Prim.Native.Nat.{ℕ, zero, suc, _-_, _<_, _≤_}
+use mathlib.Core.Bool.{Bool, true, false, cond}
+use mathlib.Core.Path.{_≡_, refl}
+use native.Mathlib.Omega.{arith}
+use borrow.Author.Tests.{le-ltb}
+use lib.Dec.{ltb}
+use lib.IntN.{ℤ, pos, negsuc}
+use lib.ListN.{length, getD, List·getD-eq-default}
+use Rattle.basics.proofs.Lists.{getD-inside}
+use Rattle.model.specs.declared.code.Code.{Code}
+use Rattle.model.specs.declared.code.Code.the-variants as code
+use Rattle.model.specs.Numbers.{minus, numberOf, signedOf, errors, platformAnswers, answerOf}
+
+above : (n : ℕ) → 0 < n → platformAnswers (pos n) ≡ code.Unusable
+above zero h = absurd (omega arith)
+above (suc n) h = refl
+
+below : (n : ℕ) → 9 < n → platformAnswers (minus n) ≡ code.Unusable
+below zero h = absurd (omega arith)
+below (suc n) h =
+    let past : length errors ≤ n = omega arith in
+    List·getD-eq-default errors code.Unusable past
+
+error-of : (n : ℕ) → (getD errors n code.Unusable ≡ code.Unusable → ⊥) → numberOf (getD errors n code.Unusable) ≡ negsuc n
+error-of zero h = refl
+error-of (suc zero) h = refl
+error-of (suc (suc zero)) h = refl
+error-of (suc (suc (suc zero))) h = refl
+error-of (suc (suc (suc (suc zero)))) h = refl
+error-of (suc (suc (suc (suc (suc zero))))) h = refl
+error-of (suc (suc (suc (suc (suc (suc zero)))))) h = refl
+error-of (suc (suc (suc (suc (suc (suc (suc zero))))))) h = refl
+error-of (suc (suc (suc (suc (suc (suc (suc (suc zero)))))))) h = refl
+error-of (suc (suc (suc (suc (suc (suc (suc (suc (suc n))))))))) h = absurd (h refl)
+
+answer-of : (z : ℤ) → (platformAnswers z ≡ code.Unusable → ⊥) → numberOf (platformAnswers z) ≡ z
+answer-of (pos zero) h = refl
+answer-of (pos (suc n)) h = absurd (h refl)
+answer-of (negsuc n) h = error-of n h
+
+module _ (b : ℕ) where
+  -- a byte that is neither 0 nor FFh to F7h is no answer
+  pub no-answer : 0 < b → b < 247 → answerOf b ≡ code.Unusable
+  no-answer p q = go (ltb b 128) refl
+    where
+      go : (t : Bool) → ltb b 128 ≡ t → platformAnswers (cond t (pos b) (minus (256 - b))) ≡ code.Unusable
+      go true e = above b p
+      go false e = below (256 - b) (omega arith)
+
+  -- FFh to F7h are the errors in their order
+  pub error-answer : (d : Code) → 247 ≤ b → b < 256 → answerOf b ≡ getD errors (255 - b) d
+  error-answer d p q =
+      let high : 128 ≤ b = omega arith in
+      let size : 256 - b ≡ suc (255 - b) = omega arith in
+      let inside : 255 - b < length errors = omega arith in
+      rw (le-ltb b 128 high, size) (getD-inside errors (255 - b) code.Unusable d inside)
+
+  -- an answer that can be used has the byte's signed number: FEh is -2
+  pub answer-number : (answerOf b ≡ code.Unusable → ⊥) → numberOf (answerOf b) ≡ signedOf b
+  answer-number usable = answer-of (signedOf b) usable

@@ -1,0 +1,5 @@
+pub mod Below
+pub mod Composite
+pub mod Limits
+pub mod Numbers
+pub mod States

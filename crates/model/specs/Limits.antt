@@ -1,0 +1,22 @@
+-- The limits of a board. Nothing else names these numbers.
+use Prim.Native.Nat.{ℕ, suc}
+
+-- the most CPUs
+abbrev pub cpuLimit : ℕ
+cpuLimit = 16
+
+-- the most power domains
+abbrev pub domainLimit : ℕ
+domainLimit = 16
+
+-- the highest MAX of a platform
+abbrev pub highestMax : ℕ
+highestMax = 3
+
+-- levels of a composite state: 0, the CPU, to the highest MAX
+abbrev pub levels : ℕ
+levels = suc highestMax
+
+-- the most states of a platform
+abbrev pub stateLimit : ℕ
+stateLimit = 16

@@ -1,0 +1,66 @@
+-- docs/REFERENCE.md, 'Numbers given back'. 0 to -9 are DEN0022's, 'Return error codes'.
+use Prim.Native.Nat.{ℕ, zero, suc, _-_}
+use mathlib.Core.Bool.{cond}
+use mathlib.Core.List.{List, [], _∷_}
+use lib.Dec.{ltb}
+use lib.IntN.{ℤ, pos, negsuc, negℤ}
+use lib.ListN.{getD}
+use Rattle.model.specs.declared.code.Code.{Code}
+use Rattle.model.specs.declared.code.Code.the-variants as code
+
+-- minus n
+abbrev pub minus : ℕ → ℤ
+minus n = negℤ (pos n)
+
+-- the number of each answer
+abbrev pub numberOf : Code → ℤ
+numberOf code.Accepted = pos 0
+numberOf code.NotSupported = minus 1
+numberOf code.InvalidParameters = minus 2
+numberOf code.Denied = minus 3
+numberOf code.AlreadyOn = minus 4
+numberOf code.OnPending = minus 5
+numberOf code.InternalFailure = minus 6
+numberOf code.NotPresent = minus 7
+numberOf code.Disabled = minus 8
+numberOf code.InvalidAddress = minus 9
+numberOf code.BadBoard = pos 101
+numberOf code.NotSound = pos 102
+numberOf code.NoCaller = pos 103
+numberOf code.NotRunning = pos 104
+numberOf code.NotDue = pos 105
+numberOf code.Unusable = pos 106
+numberOf code.OsInitiated = pos 107
+numberOf code.Malformed = pos 108
+numberOf code.Outside = pos 109
+numberOf code.NoRoom = pos 110
+numberOf code.SuspendBesideRequest = pos 111
+numberOf code.BudgetSpent = pos 112
+
+-- a byte as a signed number: FEh is -2
+abbrev pub signedOf : ℕ → ℤ
+signedOf b = cond (ltb b 128) (pos b) (minus (256 - b))
+
+-- DEN0022's errors, from -1 to -9
+abbrev pub errors : List Code
+errors =
+    code.NotSupported
+    ∷ code.InvalidParameters
+    ∷ code.Denied
+    ∷ code.AlreadyOn
+    ∷ code.OnPending
+    ∷ code.InternalFailure
+    ∷ code.NotPresent
+    ∷ code.Disabled
+    ∷ code.InvalidAddress
+    ∷ []
+
+-- what a platform answers by a signed number: 0, an error of -1 to -9, or nothing that can be used
+abbrev pub platformAnswers : ℤ → Code
+platformAnswers (pos zero) = code.Accepted
+platformAnswers (pos (suc n)) = code.Unusable
+platformAnswers (negsuc n) = getD errors n code.Unusable
+
+-- a platform's answer, from its byte
+abbrev pub answerOf : ℕ → Code
+answerOf b = platformAnswers (signedOf b)
