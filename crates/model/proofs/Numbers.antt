@@ -10,13 +10,13 @@ use lib.ListN.{length, getD, List·getD-eq-default}
 use Rattle.basics.proofs.Lists.{getD-inside}
 use Rattle.model.specs.declared.code.Code.{Code}
 use Rattle.model.specs.declared.code.Code.the-variants as code
-use Rattle.model.specs.Numbers.{minus, numberOf, signedOf, errors, platformAnswers, answerOf}
+use Rattle.model.specs.Numbers.{minus, numberOf, signedOf, errors, answerOfNumber, answerOf}
 
-above : (n : ℕ) → 0 < n → platformAnswers (pos n) ≡ code.Unusable
+above : (n : ℕ) → 0 < n → answerOfNumber (pos n) ≡ code.Unusable
 above zero h = absurd (omega arith)
 above (suc n) h = refl
 
-below : (n : ℕ) → 9 < n → platformAnswers (minus n) ≡ code.Unusable
+below : (n : ℕ) → 9 < n → answerOfNumber (minus n) ≡ code.Unusable
 below zero h = absurd (omega arith)
 below (suc n) h =
     let past : length errors ≤ n = omega arith in
@@ -34,7 +34,7 @@ error-of (suc (suc (suc (suc (suc (suc (suc zero))))))) h = refl
 error-of (suc (suc (suc (suc (suc (suc (suc (suc zero)))))))) h = refl
 error-of (suc (suc (suc (suc (suc (suc (suc (suc (suc n))))))))) h = absurd (h refl)
 
-answer-of : (z : ℤ) → (platformAnswers z ≡ code.Unusable → ⊥) → numberOf (platformAnswers z) ≡ z
+answer-of : (z : ℤ) → (answerOfNumber z ≡ code.Unusable → ⊥) → numberOf (answerOfNumber z) ≡ z
 answer-of (pos zero) h = refl
 answer-of (pos (suc n)) h = absurd (h refl)
 answer-of (negsuc n) h = error-of n h
@@ -44,7 +44,7 @@ module _ (b : ℕ) where
   pub no-answer : 0 < b → b < 247 → answerOf b ≡ code.Unusable
   no-answer p q = go (ltb b 128) refl
     where
-      go : (t : Bool) → ltb b 128 ≡ t → platformAnswers (cond t (pos b) (minus (256 - b))) ≡ code.Unusable
+      go : (t : Bool) → ltb b 128 ≡ t → answerOfNumber (cond t (pos b) (minus (256 - b))) ≡ code.Unusable
       go true e = above b p
       go false e = below (256 - b) (omega arith)
 

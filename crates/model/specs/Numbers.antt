@@ -55,12 +55,12 @@ errors =
     ∷ code.InvalidAddress
     ∷ []
 
--- what a platform answers by a signed number: 0, an error of -1 to -9, or nothing that can be used
-abbrev pub platformAnswers : ℤ → Code
-platformAnswers (pos zero) = code.Accepted
-platformAnswers (pos (suc n)) = code.Unusable
-platformAnswers (negsuc n) = getD errors n code.Unusable
+-- the answer that a signed number is: 0, an error of -1 to -9, or nothing that can be used
+abbrev pub answerOfNumber : ℤ → Code
+answerOfNumber (pos zero) = code.Accepted
+answerOfNumber (pos (suc n)) = code.Unusable
+answerOfNumber (negsuc n) = getD errors n code.Unusable
 
--- a platform's answer, from its byte
+-- the platform's answer that a byte is
 abbrev pub answerOf : ℕ → Code
-answerOf b = platformAnswers (signedOf b)
+answerOf b = answerOfNumber (signedOf b)
