@@ -25,7 +25,7 @@ own =
     ∷ code.BudgetSpent
     ∷ []
 
--- the answer of a number; 0 is left over
+-- the answer that has a number
 named : ℤ → Code
 named (pos n) = getD (code.Accepted ∷ own) (n - 100) code.Accepted
 named (negsuc n) = getD errors n code.Accepted

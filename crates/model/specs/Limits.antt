@@ -1,4 +1,4 @@
--- The limits of a board. Nothing else names these numbers.
+-- The limits of a board, each named once.
 use Prim.Native.Nat.{ℕ, suc}
 
 -- the most CPUs
