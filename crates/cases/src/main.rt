@@ -1,13 +1,19 @@
-// Runs the compiled code on what the scope and docs/DIFFERENCES.md say of answers, platforms and requests. Each line is a
+// Runs the compiled code on what the scope and docs/DIFFERENCES.md say of answers, platforms, requests and records. Each line is a
 // statement and whether it holds; the file `stdout` has them all at yes.
 mod answers;
+mod domains;
+mod entries;
 mod platforms;
+mod queries;
 mod requests;
 
 fn main() {
     answers::run();
     platforms::run();
     requests::run();
+    domains::run();
+    queries::run();
+    entries::run();
 }
 
 // Writes a statement and whether it holds.

@@ -1,10 +1,10 @@
 -- Laws on a test over the numbers below a bound.
-use Prim.Native.Nat.{ℕ, zero, suc, _<_}
-use mathlib.Core.Bool.{Bool, true, false, true≢false, and-eq-true-iff}
+use Prim.Native.Nat.{ℕ, zero, suc, _<_, _≤_}
+use mathlib.Core.Bool.{Bool, true, false, true≢false, and-true, and-eq-true-iff}
 use mathlib.Core.Path.{_≡_, sym, ap, _∙_}
 use native.Mathlib.Omega.{arith}
-use borrow.Author.Tests.{eqb-true, eqb-false}
-use lib.Dec.{eqb}
+use borrow.Author.Tests.{eqb-true, eqb-false, leb-true, leb-false}
+use lib.Dec.{eqb, leb}
 use Rattle.basics.proofs.Tests.{by}
 use Rattle.model.specs.declared.states.FoundLevel.the-variants as found
 use Rattle.model.specs.Below.{every, highest}
@@ -19,6 +19,16 @@ module _ (test : ℕ → Bool) where
       by (eqb i n)
       (λ e. ap test (eqb-true i n e) ∙ both .1)
       (λ e. let d = eqb-false i n e in every-at n i (both .0) (omega arith))
+
+  -- where the test holds from n on, more numbers make no difference
+  pub every-more : (n k : ℕ) → n ≤ k → ((i : ℕ) → n ≤ i → i < k → test i ≡ true) → every k test ≡ every n test
+  unfolding every
+  every-more n zero h holds = let z : n ≡ 0 = omega arith in rw z
+  every-more n (suc k) h holds =
+      by (leb n k)
+      (λ t. let l = leb-true n k t in
+      rw (holds k l (omega arith), and-true) (every-more n k l (λ i a b. holds i a (omega arith))))
+      (λ t. let z : n ≡ suc k = omega (arith, leb-false n k t) in rw z)
 
   -- what was found is below n, passes the test, and none above it does; it is found where any number passes
   pub record Highest (n h : ℕ) : Type 0 where

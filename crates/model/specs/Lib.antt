@@ -1,5 +1,10 @@
 pub mod Below
 pub mod Composite
+pub mod Cpu
 pub mod Limits
+pub mod Minimum
+pub mod Node
 pub mod Numbers
+pub mod Query
+pub mod Span
 pub mod States

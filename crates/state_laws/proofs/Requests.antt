@@ -10,7 +10,6 @@ use Rattle.basics.proofs.Tests.{by}
 use Rattle.model.proofs.Below.{every-at, highest-is}
 use Rattle.model.specs.declared.states.CompositeState.{CompositeState}
 use Rattle.model.specs.declared.states.FoundLevel.the-variants as found
-use Rattle.model.specs.declared.states.Kind.the-variants as kind
 use Rattle.model.specs.declared.states.Platform.{Platform}
 use Rattle.model.specs.Composite.{statesOf, stateAt, levelInRangeb, statesInRangeb, kindAt, nonRunAtb, noDeeperb, findHighestNonRunLevelOf, isValidSuspendRequestb}
 use Rattle.model.specs.Below.{every}

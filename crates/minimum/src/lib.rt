@@ -1,0 +1,1 @@
+// Laws on the minimum: no code.
