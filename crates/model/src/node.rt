@@ -46,7 +46,7 @@ pub enum Child {
     Given(DomainNumber),
 }
 
-// What a query for a state answers; beside a refusal stands RUN, which nothing sleeps on.
+// What a query for a state answers; beside a refusal stands RUN, so that who overlooks it keeps the domain up.
 pub struct StateAnswer {
     pub code: Code,
     pub state: u8,

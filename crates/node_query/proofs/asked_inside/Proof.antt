@@ -11,4 +11,12 @@ returns-2 c =
     simp (c .before .before .child .given .1, c .holds2 .ensures, k .holds .ensures)
 
 pub asked-inside-spec : {M : Type 1} → statement M
-asked-inside-spec = tie.close (tie.spec (λ c κs. search needs) (λ c. search needs) (λ c. search needs) (λ c κs. search needs) returns returns-2)
+asked-inside-spec =
+    tie.close
+    (tie.spec
+    (λ c κs. search needs)
+    (λ c. search needs)
+    (λ c. search needs)
+    (λ c κs. search needs)
+    returns
+    returns-2)

@@ -1,5 +1,5 @@
-use Rattle.model.specs.Query.{getOsiMinimalAllowedStateWithoutCoreOf}
 use borrow.Author.Needs.{needs}
+use Rattle.model.specs.Query.{getOsiMinimalAllowedStateWithoutCoreOf}
 use Rattle.node_query.proofs.get_osi_minimal_allowed_state_without_core.Statement.{statement}
 use Rattle.node_query.proofs.get_osi_minimal_allowed_state_without_core.Tie as tie
 
@@ -16,4 +16,12 @@ returns c =
     )
 
 pub get-osi-minimal-allowed-state-without-core-spec : {M : Type 1} → statement M
-get-osi-minimal-allowed-state-without-core-spec = tie.close (tie.spec (λ c κs. search needs) (λ c κs. search needs) (λ c κs. search needs) (λ c κs. search needs) (λ c κs. search needs) returns)
+get-osi-minimal-allowed-state-without-core-spec =
+    tie.close
+    (tie.spec
+    (λ c κs. search needs)
+    (λ c κs. search needs)
+    (λ c κs. search needs)
+    (λ c κs. search needs)
+    (λ c κs. search needs)
+    returns)

@@ -8,4 +8,13 @@ returns c =
     simp (c .answer .ensures, c .before .set-local-state .ensures, k .within .ensures, k .before .minimum .ensures)
 
 pub set-minimal-allowed-state-spec : {M : Type 1} → statement M
-set-minimal-allowed-state-spec = tie.close (tie.spec (λ c. search needs) (λ c. search needs) (λ c κs. search needs) (λ c κs. search needs) (λ c κs. search needs) (λ c κs. search needs) returns)
+set-minimal-allowed-state-spec =
+    tie.close
+    (tie.spec
+    (λ c. search needs)
+    (λ c. search needs)
+    (λ c κs. search needs)
+    (λ c κs. search needs)
+    (λ c κs. search needs)
+    (λ c κs. search needs)
+    returns)

@@ -8,4 +8,10 @@ returns c =
     simp (c .answer .ensures, c .before .holds .ensures, k .with-domain .ensures)
 
 pub set-non-cpu-state-spec : {M : Type 1} → statement M
-set-non-cpu-state-spec = tie.close (tie.spec (λ c κs. search needs) (λ c κs. search needs) (λ c κs. search needs) returns)
+set-non-cpu-state-spec =
+    tie.close
+    (tie.spec
+    (λ c κs. search needs)
+    (λ c κs. search needs)
+    (λ c κs. search needs)
+    returns)

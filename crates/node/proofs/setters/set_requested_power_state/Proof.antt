@@ -8,4 +8,10 @@ returns c =
     simp (c .answer .ensures, c .before .holds .ensures, k .with-cpu .ensures)
 
 pub set-requested-power-state-spec : {M : Type 1} → statement M
-set-requested-power-state-spec = tie.close (tie.spec (λ c κs. search needs) (λ c κs. search needs) (λ c κs. search needs) returns)
+set-requested-power-state-spec =
+    tie.close
+    (tie.spec
+    (λ c κs. search needs)
+    (λ c κs. search needs)
+    (λ c κs. search needs)
+    returns)

@@ -8,4 +8,10 @@ returns c =
     simp (c .answer .ensures, c .before .holds .ensures, k .with-cpu .ensures)
 
 pub set-suspend-state-spec : {M : Type 1} → statement M
-set-suspend-state-spec = tie.close (tie.spec (λ c κs. search needs) (λ c κs. search needs) (λ c κs. search needs) returns)
+set-suspend-state-spec =
+    tie.close
+    (tie.spec
+    (λ c κs. search needs)
+    (λ c κs. search needs)
+    (λ c κs. search needs)
+    returns)
