@@ -1,2 +1,3 @@
+pub mod Is
 pub mod Lists
 pub mod Tests

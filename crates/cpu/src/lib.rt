@@ -1,6 +1,6 @@
 // A CPU's record, by value: the functions of the Rust's `CpuPowerNode`.
 ghost use mathlib.Core.Path.{_≡_};
-ghost use Rattle.model.specs.Cpu.{affinityInfoOf, localStateOf, newOf, popEntryPointOf};
+ghost use Rattle.model.specs.Cpu.{affinityInfoOf, heldb, localStateOf, newOf, onb, popEntryPointOf};
 ghost use Rattle.model.specs.Cpu.{setAffinityInfoOf, setEntryPointOf, setLocalStateOf};
 use model::code::Code;
 use model::cpu::AffinityInfo;
@@ -87,5 +87,26 @@ pub fn pop_entry_point(cpu: CpuPowerNode) -> PoppedEntry
     PoppedEntry {
         entry,
         cpu: cleared,
+    }
+}
+
+// Is the affinity On?
+pub fn is_on(affinity_info: AffinityInfo) -> bool
+    ensures { λ r. ⌜ r ≡ onb «affinity_info» ⌝ }
+{
+    match affinity_info {
+        AffinityInfo::On => true,
+        AffinityInfo::Off => false,
+        AffinityInfo::OnPending => false,
+    }
+}
+
+// Is an entry held?
+pub fn is_held(entry_point: Entry) -> bool
+    ensures { λ r. ⌜ r ≡ heldb «entry_point» ⌝ }
+{
+    match entry_point {
+        Entry::Nothing => false,
+        Entry::Held(_) => true,
     }
 }

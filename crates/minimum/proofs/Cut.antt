@@ -6,11 +6,11 @@ use native.Mathlib.Omega.{arith}
 use borrow.Author.Tests.{ltb-true, ltb-false}
 use lib.Dec.{ltb}
 use Rattle.basics.proofs.Tests.{by}
+use Rattle.model.proofs.Spans.{span-has, span-within}
 use Rattle.model.specs.Minimum.{lesserOf, minimumOf}
 use Rattle.model.specs.Span.{fromTob}
 use Rattle.minimum.proofs.Lesser.{lesser-is}
 use Rattle.minimum.proofs.Minimum.{Counted, Within, met-within, minimum-is, minimum-only}
-use Rattle.minimum.proofs.Span.{span-has, span-within}
 
 counted : (start end i : ℕ) → start ≤ i → i < end → Counted end (fromTob start end) i
 counted start end i h k = record { below = k; is = span-has start end i h k }

@@ -4,24 +4,17 @@ use mathlib.Core.Bool.{Bool, true, cond, not, _&&_, and-eq-true-iff}
 use mathlib.Core.Path.{_≡_, refl}
 use native.Mathlib.Numerals.{add-one}
 use native.Mathlib.Omega.{arith}
-use borrow.Author.Tests.{le-leb, lt-ltb, ne-eqb, leb-true, ltb-true}
-use lib.Dec.{leb, ltb, eqb}
+use borrow.Author.Tests.{ne-eqb}
+use lib.Dec.{eqb}
 use Rattle.basics.proofs.Tests.{by}
 use Rattle.model.proofs.Below.{every-more}
+use Rattle.model.proofs.Spans.{span-has, span-within}
 use Rattle.model.specs.Below.{every}
 use Rattle.model.specs.Minimum.{lesserOf, minimumOf}
 use Rattle.model.specs.Span.{fromTob, fromToWithoutb}
 use Rattle.minimum.proofs.Minimum.{minimum-none, minimum-same}
 
 module _ (start end : ℕ) where
-  -- the numbers from start on and before end are those of the span
-  pub span-has : (i : ℕ) → start ≤ i → i < end → fromTob start end i ≡ true
-  span-has i h k = and-eq-true-iff (leb start i) (ltb i end) .1 (le-leb start i h, lt-ltb i end k)
-
-  pub span-within : (i : ℕ) → fromTob start end i ≡ true → (start ≤ i) × (i < end)
-  span-within i h =
-      let both = and-eq-true-iff (leb start i) (ltb i end) .0 h in (leb-true start i (both .0), ltb-true i end (both .1))
-
   -- without its end a span is whole
   pub minimum-whole : (state : ℕ → ℕ) (off : ℕ) →
       minimumOf end (fromToWithoutb start end end) state off ≡ minimumOf end (fromTob start end) state off

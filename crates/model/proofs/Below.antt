@@ -1,10 +1,12 @@
 -- Laws on a test over the numbers below a bound.
-use Prim.Native.Nat.{ℕ, zero, suc, _<_, _≤_}
-use mathlib.Core.Bool.{Bool, true, false, true≢false, and-true, and-eq-true-iff}
-use mathlib.Core.Path.{_≡_, sym, ap, _∙_}
+use Prim.Native.Nat.{ℕ, zero, suc, _+_, _<_, _≤_}
+use mathlib.Core.Bool.{Bool, true, false, _&&_, true≢false, and-true, and-eq-true-iff}
+use mathlib.Core.Path.{_≡_, refl, sym, ap, _∙_}
+use native.Mathlib.Numerals.{add-one}
 use native.Mathlib.Omega.{arith}
 use borrow.Author.Tests.{eqb-true, eqb-false, leb-true, leb-false}
 use lib.Dec.{eqb, leb}
+use Rattle.basics.proofs.Is.{Is}
 use Rattle.basics.proofs.Tests.{by}
 use Rattle.model.specs.declared.states.FoundLevel.the-variants as found
 use Rattle.model.specs.Below.{every, highest}
@@ -19,6 +21,33 @@ module _ (test : ℕ → Bool) where
       by (eqb i n)
       (λ e. ap test (eqb-true i n e) ∙ both .1)
       (λ e. let d = eqb-false i n e in every-at n i (both .0) (omega arith))
+
+  -- what holds at each number below n holds at every one
+  pub every-from : (n : ℕ) → ((i : ℕ) → i < n → test i ≡ true) → every n test ≡ true
+  unfolding every
+  every-from zero holds = refl
+  every-from (suc n) holds =
+      and-eq-true-iff (every n test) (test n) .1 (every-from n (λ i k. holds i (omega arith)), holds n (omega arith))
+
+  -- a walk starts with yes, takes one number more, and ends
+  pub every-none : true ≡ every 0 test
+  unfolding every
+  every-none = refl
+
+  pub every-next : (i : ℕ) {ok : Bool} → ok ≡ every i test → ok && test i ≡ every (i + 1) test
+  unfolding every
+  every-next i h = rw (add-one, h)
+
+  pub every-end : (i n : ℕ) {ok : Bool} → i ≡ n → ok ≡ every i test → ok ≡ every n test
+  every-end i n e h = h ∙ ap (λ (k : ℕ). every k test) e
+
+  -- a walk that leaves at the first number that fails
+  pub every-pass : (n : ℕ) → every n test ≡ true → test n ≡ true → every (n + 1) test ≡ true
+  unfolding every
+  every-pass n h k = rw (add-one, h, k)
+
+  pub every-fails : (n i : ℕ) → i < n → test i ≡ false → every n test ≡ false
+  every-fails n i h k = by (every n test) (λ t. absurd (true≢false (sym (every-at n i t h) ∙ k))) (λ t. t)
 
   -- where the test holds from n on, more numbers make no difference
   pub every-more : (n k : ℕ) → n ≤ k → ((i : ℕ) → n ≤ i → i < k → test i ≡ true) → every k test ≡ every n test
@@ -53,3 +82,11 @@ module _ (test : ℕ → Bool) where
           above = λ l a b. by (eqb l n) (λ e. ap test (eqb-true l n e) ∙ t) (λ e. let f = eqb-false l n e in r .1 .above l a (omega arith));
         },
       ))
+
+-- where each test stands for a fact, the test of them all stands for the fact at each number
+pub is-every : (n : ℕ) {test : ℕ → Bool} {P : ℕ → Type 0} → ((i : ℕ) → Is (test i) (P i)) →
+    Is (every n test) ((i : ℕ) → i < n → P i)
+is-every n {test} r = record {
+  to = λ h i k. r i .to (every-at test n i h k);
+  from = λ p. every-from test n (λ i k. r i .from (p i k));
+}

@@ -1,3 +1,5 @@
 pub mod Apart
 pub mod Below
 pub mod Numbers
+pub mod Spans
+pub mod Tables

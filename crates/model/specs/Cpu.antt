@@ -1,5 +1,6 @@
 -- docs/REFERENCE.md, 'CPU records'.
 use Prim.Native.Nat.{ℕ}
+use mathlib.Core.Bool.{Bool, true, false}
 use Rattle.model.specs.declared.code.Code.the-variants as code
 use Rattle.model.specs.declared.cpu.AffinityInfo.{AffinityInfo}
 use Rattle.model.specs.declared.cpu.AffinityInfo.the-variants as affinity
@@ -10,6 +11,23 @@ use Rattle.model.specs.declared.cpu.Entry.the-variants as entry
 use Rattle.model.specs.declared.cpu.EntryPoint.{EntryPoint}
 use Rattle.model.specs.declared.cpu.PoppedEntry.{PoppedEntry}
 use Rattle.model.specs.declared.sorts.DomainNumber.{DomainNumber}
+
+-- the affinity is On
+abbrev pub onb : AffinityInfo → Bool
+onb affinity.On = true
+onb affinity.Off = false
+onb affinity.OnPending = false
+
+-- the affinity is Off; OnPending is not
+abbrev pub offb : AffinityInfo → Bool
+offb affinity.On = false
+offb affinity.Off = true
+offb affinity.OnPending = false
+
+-- an entry is held
+abbrev pub heldb : Entry → Bool
+heldb entry.Nothing = false
+heldb (entry.Held _) = true
 
 -- a new CPU is Off, in state OFF, and holds no entry
 abbrev pub newOf : DomainNumber → ℕ → CpuPowerNode

@@ -1,6 +1,6 @@
 -- docs/REFERENCE.md, 'Numbers given back'. 0 to -9 are DEN0022's, 'Return error codes'.
 use Prim.Native.Nat.{ℕ, zero, suc, _-_}
-use mathlib.Core.Bool.{cond}
+use mathlib.Core.Bool.{Bool, true, false, cond}
 use mathlib.Core.List.{List, [], _∷_}
 use lib.Dec.{ltb}
 use lib.IntN.{ℤ, pos, negsuc, negℤ}
@@ -36,6 +36,31 @@ numberOf code.Outside = pos 109
 numberOf code.NoRoom = pos 110
 numberOf code.SuspendBesideRequest = pos 111
 numberOf code.BudgetSpent = pos 112
+
+-- the answer is that the call is accepted
+abbrev pub acceptedb : Code → Bool
+acceptedb code.Accepted = true
+acceptedb code.NotSupported = false
+acceptedb code.InvalidParameters = false
+acceptedb code.Denied = false
+acceptedb code.AlreadyOn = false
+acceptedb code.OnPending = false
+acceptedb code.InternalFailure = false
+acceptedb code.NotPresent = false
+acceptedb code.Disabled = false
+acceptedb code.InvalidAddress = false
+acceptedb code.BadBoard = false
+acceptedb code.NotSound = false
+acceptedb code.NoCaller = false
+acceptedb code.NotRunning = false
+acceptedb code.NotDue = false
+acceptedb code.Unusable = false
+acceptedb code.OsInitiated = false
+acceptedb code.Malformed = false
+acceptedb code.Outside = false
+acceptedb code.NoRoom = false
+acceptedb code.SuspendBesideRequest = false
+acceptedb code.BudgetSpent = false
 
 -- a byte as a signed number: FEh is -2
 abbrev pub signedOf : ℕ → ℤ

@@ -1,5 +1,5 @@
 ghost use mathlib.Core.Path.{_≡_};
-ghost use Rattle.model.specs.Numbers.{numberOf, answerOf};
+ghost use Rattle.model.specs.Numbers.{numberOf, acceptedb, answerOf};
 
 // What a call answers. The first ten are DEN0022's, under the names of the Rust's `ErrorCode`; a platform's error is one of
 // them too. The rest are the port's own.
@@ -81,6 +81,36 @@ impl Code {
             Code::NoRoom => 110,
             Code::SuspendBesideRequest => 111,
             Code::BudgetSpent => 112,
+        }
+    }
+
+    // Is the answer that the call is accepted?
+    pub fn is_accepted(self) -> bool
+        ensures { λ r. ⌜ r ≡ acceptedb self ⌝ }
+    {
+        match self {
+            Code::Accepted => true,
+            Code::NotSupported => false,
+            Code::InvalidParameters => false,
+            Code::Denied => false,
+            Code::AlreadyOn => false,
+            Code::OnPending => false,
+            Code::InternalFailure => false,
+            Code::NotPresent => false,
+            Code::Disabled => false,
+            Code::InvalidAddress => false,
+            Code::BadBoard => false,
+            Code::NotSound => false,
+            Code::NoCaller => false,
+            Code::NotRunning => false,
+            Code::NotDue => false,
+            Code::Unusable => false,
+            Code::OsInitiated => false,
+            Code::Malformed => false,
+            Code::Outside => false,
+            Code::NoRoom => false,
+            Code::SuspendBesideRequest => false,
+            Code::BudgetSpent => false,
         }
     }
 

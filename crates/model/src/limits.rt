@@ -7,8 +7,14 @@ pub const CPUS: usize = 16;
 // The most power domains of a board.
 pub const DOMAINS: usize = 16;
 
+// The most entries of a topology: one for the top, one for each domain.
+pub const ENTRIES: usize = DOMAINS + 1;
+
 // The highest MAX of a platform.
 pub const HIGHEST_MAX: u8 = 3;
+
+// The slots of a table by level and CPU.
+pub const REQUESTS: usize = HIGHEST_MAX as usize * CPUS;
 
 // The most states of a platform.
 pub const STATES: u8 = 16;

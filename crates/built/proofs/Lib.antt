@@ -1,0 +1,3 @@
+pub mod Assigned
+pub mod Built
+pub mod Part

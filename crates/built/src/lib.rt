@@ -1,0 +1,1 @@
+// Entering every CPU builds the spans of the tree: no code.

@@ -1,0 +1,2 @@
+pub mod Filled
+pub mod Part

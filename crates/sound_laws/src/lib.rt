@@ -1,0 +1,1 @@
+// Theorems on sound state records: no code.

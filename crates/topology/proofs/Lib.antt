@@ -1,0 +1,4 @@
+pub mod Acceptance
+pub mod Build
+pub mod Rows
+pub mod Walks

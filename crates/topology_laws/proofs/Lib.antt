@@ -1,0 +1,9 @@
+pub mod Accepted
+pub mod Answer
+pub mod Children
+pub mod Levels
+pub mod Parents
+pub mod Paths
+pub mod Places
+pub mod Spans
+pub mod Sums

@@ -1,0 +1,1 @@
+// Laws on tables and topologies: no code.
