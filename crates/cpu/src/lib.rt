@@ -1,6 +1,6 @@
 // A CPU's record, by value: the functions of the Rust's `CpuPowerNode`.
 ghost use mathlib.Core.Path.{_≡_};
-ghost use Rattle.model.specs.Cpu.{affinityInfoOf, heldb, localStateOf, newOf, onb, popEntryPointOf};
+ghost use Rattle.model.specs.Cpu.{affinityInfoOf, heldb, localStateOf, newOf, onb, pendingb, popEntryPointOf};
 ghost use Rattle.model.specs.Cpu.{setAffinityInfoOf, setEntryPointOf, setLocalStateOf};
 use model::code::Code;
 use model::cpu::AffinityInfo;
@@ -98,6 +98,17 @@ pub fn is_on(affinity_info: AffinityInfo) -> bool
         AffinityInfo::On => true,
         AffinityInfo::Off => false,
         AffinityInfo::OnPending => false,
+    }
+}
+
+// Is the affinity OnPending?
+pub fn is_pending(affinity_info: AffinityInfo) -> bool
+    ensures { λ r. ⌜ r ≡ pendingb «affinity_info» ⌝ }
+{
+    match affinity_info {
+        AffinityInfo::On => false,
+        AffinityInfo::Off => false,
+        AffinityInfo::OnPending => true,
     }
 }
 

@@ -8,6 +8,7 @@ use cpu::set_affinity_info;
 use cpu::set_local_state;
 use cpu_rows::cpu_in;
 use cpu_rows::no_cpu;
+use cpu_rows::with_cpu_record;
 use levels::levels_filled;
 use model::board::Board;
 use model::board::Tree;
@@ -27,7 +28,7 @@ use model::state::SuspendMode;
 use model::states::Platform;
 use topology::no_tree;
 use topology::power_domain_tree;
-use up::up_with;
+use up::running_domains;
 
 // All is off, on the tree that the topology describes.
 fn all_off(
@@ -72,10 +73,13 @@ fn all_off(
 fn bring_up(s: State, cpu: CpuNumber) -> State
     ensures { λ r. ⌜ r ≡ broughtUp s (cpu .0) ⌝ }
 {
-    let cpus = s.cpus;
-    let node = cpu_in(cpus, cpu);
+    let table = s.cpus;
+    let node = cpu_in(table, cpu);
     let running = set_local_state(set_affinity_info(node, AffinityInfo::On), 0);
-    up_with(s, cpu, running)
+    let cpus = with_cpu_record(table, cpu, running);
+    let rows = s.domains;
+    let domains = running_domains(s.tree, rows, s.board.platform.max, running.parent, cpu);
+    State { cpus, domains, ..s }
 }
 
 // A state of zeros.

@@ -1,16 +1,16 @@
 -- Laws on the numbers given back and on a platform's answer.
 use Prim.Native.Nat.{ℕ, zero, suc, _-_, _<_, _≤_}
-use mathlib.Core.Bool.{Bool, true, false, cond}
-use mathlib.Core.Path.{_≡_, refl}
+use mathlib.Core.Bool.{Bool, true, false, cond, _||_}
+use mathlib.Core.Path.{_≡_, refl, sym}
 use native.Mathlib.Omega.{arith}
-use borrow.Author.Tests.{le-ltb}
-use lib.Dec.{ltb}
+use borrow.Author.Tests.{ltb-true, ltb-false, leb-true, leb-false, lt-ltb, le-ltb, lt-leb, ne-eqb}
+use lib.Dec.{ltb, leb, eqb}
 use lib.IntN.{ℤ, pos, negsuc}
 use lib.ListN.{length, getD, List·getD-eq-default}
 use Rattle.basics.proofs.Lists.{getD-inside}
 use Rattle.model.specs.declared.code.Code.{Code}
 use Rattle.model.specs.declared.code.Code.the-variants as code
-use Rattle.model.specs.Numbers.{minus, numberOf, signedOf, errors, answerOfNumber, answerOf}
+use Rattle.model.specs.Numbers.{minus, numberOf, signedOf, errors, answerOfNumber, answerOf, usableNumberb, usableb}
 
 above : (n : ℕ) → 0 < n → answerOfNumber (pos n) ≡ code.Unusable
 above zero h = absurd (omega arith)
@@ -21,6 +21,10 @@ below zero h = absurd (omega arith)
 below (suc n) h =
     let past : length errors ≤ n = omega arith in
     List·getD-eq-default errors code.Unusable past
+
+usable-above : (n : ℕ) → n < 128 → (eqb n 0 || leb 247 n) ≡ usableNumberb (pos n)
+usable-above zero h = refl
+usable-above (suc n) h = simp (ne-eqb (suc n) 0 (λ z. omega arith), lt-leb 247 (suc n) (omega arith))
 
 error-of : (n : ℕ) → (getD errors n code.Unusable ≡ code.Unusable → ⊥) → numberOf (getD errors n code.Unusable) ≡ negsuc n
 error-of zero h = refl
@@ -55,6 +59,23 @@ module _ (b : ℕ) where
       let size : 256 - b ≡ suc (255 - b) = omega arith in
       let inside : 255 - b < length errors = omega arith in
       rw (le-ltb b 128 high, size) (getD-inside errors (255 - b) code.Unusable d inside)
+
+  -- 0 and FFh to F7h are the answers
+  pub usable-byte : b < 256 → (eqb b 0 || leb 247 b) ≡ usableb b
+  usable-byte q = go (ltb b 128) refl
+    where
+      size : 256 - b ≡ suc (255 - b)
+      size = omega arith
+
+      high : (t : Bool) → leb 247 b ≡ t → t ≡ ltb (255 - b) (length errors)
+      high true e = let h = leb-true 247 b e in sym (lt-ltb (255 - b) 9 (omega arith))
+      high false e = let h = leb-false 247 b e in sym (le-ltb (255 - b) 9 (omega arith))
+
+      go : (t : Bool) → ltb b 128 ≡ t → (eqb b 0 || leb 247 b) ≡ usableNumberb (cond t (pos b) (minus (256 - b)))
+      go true e = usable-above b (ltb-true b 128 e)
+      go false e =
+          let h = ltb-false b 128 e in
+          rw (ne-eqb b 0 (λ z. omega arith), size) (high (leb 247 b) refl)
 
   -- an answer that can be used has the byte's signed number: FEh is -2
   pub answer-number : (answerOf b ≡ code.Unusable → ⊥) → numberOf (answerOf b) ≡ signedOf b

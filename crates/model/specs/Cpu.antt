@@ -24,6 +24,12 @@ offb affinity.On = false
 offb affinity.Off = true
 offb affinity.OnPending = false
 
+-- the affinity is OnPending
+abbrev pub pendingb : AffinityInfo → Bool
+pendingb affinity.On = false
+pendingb affinity.Off = false
+pendingb affinity.OnPending = true
+
 -- an entry is held
 abbrev pub heldb : Entry → Bool
 heldb entry.Nothing = false

@@ -1,6 +1,9 @@
+pub mod Answer
 pub mod Assign
 pub mod Below
+pub mod Calls
 pub mod Composite
+pub mod Coordinate
 pub mod Cpu
 pub mod Fresh
 pub mod Limits
@@ -15,6 +18,7 @@ pub mod Span
 pub mod State
 pub mod StateQuery
 pub mod States
+pub mod Steps
 pub mod Table
 pub mod Topology
 pub mod Tree

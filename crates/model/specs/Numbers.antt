@@ -4,7 +4,7 @@ use mathlib.Core.Bool.{Bool, true, false, cond}
 use mathlib.Core.List.{List, [], _∷_}
 use lib.Dec.{ltb}
 use lib.IntN.{ℤ, pos, negsuc, negℤ}
-use lib.ListN.{getD}
+use lib.ListN.{getD, length}
 use Rattle.model.specs.declared.code.Code.{Code}
 use Rattle.model.specs.declared.code.Code.the-variants as code
 
@@ -85,6 +85,16 @@ abbrev pub answerOfNumber : ℤ → Code
 answerOfNumber (pos zero) = code.Accepted
 answerOfNumber (pos (suc n)) = code.Unusable
 answerOfNumber (negsuc n) = getD errors n code.Unusable
+
+-- a signed number is an answer: 0, or an error of -1 to -9
+abbrev pub usableNumberb : ℤ → Bool
+usableNumberb (pos zero) = true
+usableNumberb (pos (suc n)) = false
+usableNumberb (negsuc n) = ltb n (length errors)
+
+-- a byte is a platform's answer
+abbrev pub usableb : ℕ → Bool
+usableb b = usableNumberb (signedOf b)
 
 -- the platform's answer that a byte is
 abbrev pub answerOf : ℕ → Code

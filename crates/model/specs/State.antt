@@ -94,6 +94,14 @@ module _ (s : State) where
   abbrev pub statesAlong : ℕ → CompositeState
   statesAlong c = localStatesOf (s .tree .parents) (s .domains .states) maxAt (cpuAt c)
 
+  -- the state with another mode
+  abbrev pub withMode : SuspendMode → State
+  withMode = stateOf (s .board) (s .tree) (s .cpus) (s .domains)
+
+  -- the state with another record of a CPU
+  abbrev pub withCpu : ℕ → CpuPowerNode → State
+  withCpu c r = stateOf (s .board) (s .tree) (set (s .cpus) c r) (s .domains) (s .mode)
+
   -- the state with another record of a CPU, and set_running along the path of that CPU
   abbrev pub upWith : ℕ → CpuPowerNode → State
   upWith c r =

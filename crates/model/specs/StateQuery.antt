@@ -70,6 +70,8 @@ module _ (s : State) where
       (cond (onb (cpuAt s (cpu .0) .«affinity_info»)) (answeredTest (othersOffb (cpu .0))) (refusedTest code.NotRunning))
 
   -- every CPU is On
+  abbrev pub allOnb : Bool
+  allOnb = every (cpuCount s) (λ c. onb (cpuAt s c .«affinity_info»))
+
   unfoldable pub areAllCpusOnOf : TestAnswer
-  areAllCpusOnOf =
-      cond (soundb s) (answeredTest (every (cpuCount s) (λ c. onb (cpuAt s c .«affinity_info»)))) (refusedTest code.NotSound)
+  areAllCpusOnOf = cond (soundb s) (answeredTest allOnb) (refusedTest code.NotSound)

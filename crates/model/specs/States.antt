@@ -53,3 +53,7 @@ abbrev pub powerDownb : Kind → Bool
 powerDownb kind.Running = false
 powerDownb kind.Retention = false
 powerDownb kind.PowerDown = true
+
+-- the state is power-down
+abbrev pub downb : Platform → ℕ → Bool
+downb p s = powerDownb (kindOf p s)

@@ -1,5 +1,5 @@
 ghost use mathlib.Core.Path.{_≡_};
-ghost use Rattle.model.specs.Numbers.{numberOf, acceptedb, answerOf};
+ghost use Rattle.model.specs.Numbers.{numberOf, acceptedb, answerOf, usableb};
 
 // What a call answers. The first ten are DEN0022's, under the names of the Rust's `ErrorCode`; a platform's error is one of
 // them too. The rest are the port's own.
@@ -126,5 +126,12 @@ impl Code {
         }
         let at = (255 - byte) as usize;
         ERRORS[at]
+    }
+
+    // Is the byte an answer at all: 0, or an error of -1 to -9?
+    pub fn is_answer(byte: u8) -> bool
+        ensures { λ r. ⌜ r ≡ usableb byte ⌝ }
+    {
+        (byte == 0) | (247 <= byte)
     }
 }

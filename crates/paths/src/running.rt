@@ -1,6 +1,5 @@
-ghost use mathlib.Core.Bool.{cond};
 ghost use mathlib.Core.Path.{_≡_};
-ghost use lib.ListN.{getD, set};
+ghost use lib.ListN.{getD};
 ghost use Rattle.model.specs.Path.{levelRunningOf, setRunningOf};
 ghost use Rattle.paths.specs.Rows.{domainRows};
 use crate::ancestors::parent_byte;
@@ -12,16 +11,7 @@ use model::sorts::CpuNumber;
 use model::sorts::DomainNumber;
 use model::sorts::PowerLevel;
 use rows::cells::put;
-
-// Stores a byte at a number, if it is asked for.
-fn put_if(row: &mut [u8], asked: bool, i: usize, v: u8)
-    ensures { λ _. ⌜ now (row .exit) ≡ cond asked (set (now (row .entry)) i v) (now (row .entry)) ⌝ }
-{
-    if asked {
-        put(row, i, v);
-        return;
-    }
-}
+use rows::cells::put_if;
 
 // A domain of a level runs for a CPU: its state and the request are RUN, there is no suspend state, and below the top its copy is
 // RUN. Gives back the domain above it.

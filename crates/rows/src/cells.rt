@@ -1,3 +1,4 @@
+ghost use mathlib.Core.Bool.{cond};
 ghost use mathlib.Core.Path.{_≡_};
 ghost use lib.ListN.{getD, set};
 
@@ -17,6 +18,16 @@ pub fn put(row: &mut [u8], i: usize, v: u8)
 {
     if i < row.len() {
         row[i] = v;
+        return;
+    }
+}
+
+// Stores a byte at a number, if it is asked for.
+pub fn put_if(row: &mut [u8], asked: bool, i: usize, v: u8)
+    ensures { λ _. ⌜ now (row .exit) ≡ cond asked (set (now (row .entry)) i v) (now (row .entry)) ⌝ }
+{
+    if asked {
+        put(row, i, v);
         return;
     }
 }

@@ -8,10 +8,10 @@ ghost use Rattle.model.specs.Below.{every};
 ghost use Rattle.model.specs.Composite.{stateAt};
 ghost use Rattle.model.specs.Limits.{cpuLimit};
 ghost use Rattle.model.specs.Node.{noSuspendState};
-ghost use Rattle.model.specs.Sound.{entryDueb};
 ghost use Rattle.model.specs.SoundTest.{asksb, cpuSlotIsb, cpuSlotb, cpuUnusedb, cpuUsedb, levelsAreb, sameb, suspendsAreb};
 ghost use Rattle.model.specs.State.{askedIn};
 ghost use Rattle.model.specs.Table.{atLevel};
+use composite::entry_due;
 use cpu::is_held;
 use cpu::is_on;
 use levels::at_level;
@@ -26,21 +26,8 @@ use model::states::CompositeState;
 use model::states::Platform;
 use states::composite::state_at;
 use states::composite::states_in_range;
-use states::kinds::kind;
-use states::kinds::power_down;
 use states::platform::off;
 use states::request::is_valid_suspend_request;
-
-// Is an entry due: is the CPU OnPending, or suspended in a power-down state?
-fn entry_due(p: Platform, a: AffinityInfo, state: u8) -> bool
-    ensures { λ r. ⌜ r ≡ entryDueb p a state ⌝ }
-{
-    match a {
-        AffinityInfo::On => power_down(kind(p, state)),
-        AffinityInfo::Off => false,
-        AffinityInfo::OnPending => true,
-    }
-}
 
 // Are two bools the same?
 fn same(a: bool, b: bool) -> bool

@@ -1,39 +1,41 @@
-// A CPU that comes up.
+// The domains above a CPU that comes up.
 ghost use mathlib.Core.Path.{_≡_};
-ghost use Rattle.model.specs.State.{upWith};
-use cpu_rows::with_cpu_record;
-use model::cpu::CpuPowerNode;
+ghost use Rattle.model.specs.Path.{setRunningOf};
+use model::board::Tree;
 use model::sorts::CpuNumber;
+use model::sorts::DomainNumber;
+use model::sorts::PowerLevel;
 use model::state::Domains;
-use model::state::State;
 use paths::running::set_running;
 
-// The state with another record of a CPU, and with `set_running` along the path of that CPU.
-pub fn up_with(s: State, cpu: CpuNumber, node: CpuPowerNode) -> State
-    ensures { λ r. ⌜ r ≡ upWith s (cpu .0) node ⌝ }
+// The domains with `set_running` along the path of a CPU, whose first domain is given.
+pub fn running_domains(
+    tree: Tree,
+    domains: Domains,
+    max: PowerLevel,
+    first: DomainNumber,
+    cpu: CpuNumber,
+) -> Domains
+    ensures { λ r. ⌜ r ≡ setRunningOf (tree .parents) (max .0) (first .0) (cpu .0) domains ⌝ }
 {
-    let table = s.cpus;
-    let cpus = with_cpu_record(table, cpu, node);
-    let rows = s.domains;
-    let mut states = rows.states;
-    let mut requests = rows.requests;
-    let mut suspends = rows.suspends;
-    let mut copies = rows.copies;
+    let mut states = domains.states;
+    let mut requests = domains.requests;
+    let mut suspends = domains.suspends;
+    let mut copies = domains.copies;
     set_running(
-        &s.tree.parents,
+        &tree.parents,
         &mut states,
         &mut requests,
         &mut suspends,
         &mut copies,
-        s.board.platform.max,
-        node.parent,
+        max,
+        first,
         cpu,
     );
-    let domains = Domains {
+    Domains {
         states,
         requests,
         suspends,
         copies,
-    };
-    State { cpus, domains, ..s }
+    }
 }

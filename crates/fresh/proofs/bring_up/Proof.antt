@@ -4,17 +4,22 @@ use Rattle.fresh.proofs.bring_up.Tie as tie
 
 returns : tie.Need-returns
 returns c =
+    let up = c .before .before in
+    let put = up .before .before in
+    let set = put .before in
     simp (
-      c .up-with .ensures,
-      c .before .set-local-state .ensures,
-      c .before .before .set-affinity-info .ensures,
-      c .before .before .before .cpu-in .ensures,
+      up .running-domains .ensures,
+      put .with-cpu-record .ensures,
+      set .set-local-state .ensures,
+      set .before .set-affinity-info .ensures,
+      set .before .before .cpu-in .ensures,
     )
 
 pub bring-up-spec : {M : Type 1} → statement M
 bring-up-spec =
     tie.close
     (tie.spec
+    (λ c κs. search needs)
     (λ c κs. search needs)
     (λ c κs. search needs)
     (λ c κs. search needs)

@@ -1,0 +1,9 @@
+pub mod Answer
+pub mod Caller
+pub mod Mode
+pub mod Off
+pub mod On
+pub mod Refused
+pub mod Suspend
+pub mod SystemSuspend
+pub mod Wake

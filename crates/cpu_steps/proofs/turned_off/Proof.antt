@@ -1,0 +1,9 @@
+use borrow.Author.Needs.{needs}
+use Rattle.cpu_steps.proofs.turned_off.Statement.{statement}
+use Rattle.cpu_steps.proofs.turned_off.Tie as tie
+
+returns : tie.Need-returns
+returns c = simp (c .before .off .ensures)
+
+pub turned-off-spec : {M : Type 1} → statement M
+turned-off-spec = tie.close (tie.spec (λ c κs. search needs) returns)

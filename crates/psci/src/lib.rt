@@ -1,0 +1,11 @@
+// The calls, as methods by value on the whole state: each gives back its code, what goes out, and the next state.
+mod down;
+mod on;
+mod wake;
+
+use model::state::State;
+
+// The Rust's `Psci`: here its state alone. What the platform and the SPM answer comes in with a call, what they are told goes out.
+pub struct Psci {
+    pub state: State,
+}
