@@ -37,16 +37,16 @@ abbrev states : ℕ → ℕ → ℕ → CompositeState
 states a b c = record { level0 = a; level1 = b; level2 = c; level3 = 0 }
 
 -- a call, and what its answer must be
-pub record Step : Type 0 where
+pub record Turn : Type 0 where
   pub call : Call
   pub answers : CallAnswer → Bool
 
 -- the answer is this number
-abbrev gives : Call → ℤ → Step
+abbrev gives : Call → ℤ → Turn
 gives k n = record { call = k; answers = λ a. sameNumberb (numberOf (a .code)) n }
 
 -- the call is accepted and entered, and the platform is handed these states
-abbrev hands : Call → CompositeState → Step
+abbrev hands : Call → CompositeState → Turn
 hands k x = record {
   call = k;
   answers = λ a. acceptedb (a .code) && not (a .out .«not_entered») && sameStatesb (a .out .states) x;
@@ -55,16 +55,16 @@ hands k x = record {
 -- a case: the start, the calls in order with what they answer, and what is stored after them
 pub record Case : Type 0 where
   pub start : FreshAnswer
-  pub steps : List Step
+  pub turns : List Turn
   pub stored : State → Bool
 
-abbrev after : List Step → State → (State → Bool) → Bool
+abbrev after : List Turn → State → (State → Bool) → Bool
 after [] s stored = stored s
 after (x ∷ xs) s stored = x .answers (callOf s (x .call)) && after xs (callOf s (x .call) .state) stored
 
 -- the case comes out
 abbrev comesOut : Case → Bool
-comesOut c = acceptedb (c .start .code) && after (c .steps) (c .start .state) (c .stored)
+comesOut c = acceptedb (c .start .code) && after (c .turns) (c .start .state) (c .stored)
 
 abbrev pub allComeOut : List Case → Bool
 allComeOut [] = true
@@ -74,8 +74,8 @@ allComeOut (c ∷ cs) = comesOut c && allComeOut cs
 abbrev fresh : FreshAnswer
 fresh = freshOf (record { max = record { 0 = 2 }; states = 4; down = 2 }) (record { 0 = 0 }) (1 ∷ 2 ∷ 2 ∷ 2 ∷ [])
 
-abbrev fromFresh : List Step → (State → Bool) → Case
-fromFresh steps stored = record { start = fresh; steps = steps; stored = stored }
+abbrev fromFresh : List Turn → (State → Bool) → Case
+fromFresh turns stored = record { start = fresh; turns = turns; stored = stored }
 
 abbrev cpu : ℕ → CpuNumber
 cpu c = record { 0 = c }
@@ -104,7 +104,7 @@ abbrev noMore : State → Bool
 noMore s = true
 
 -- CPU 1 is up, and CPU 0 suspends 3,3,3
-abbrev oneDown : List Step
+abbrev oneDown : List Turn
 oneDown =
     gives (on 1 true 0) (pos 0) ∷ gives (boot 1) (pos 0) ∷ hands (suspend 0 (states 3 3 3)) (states 3 0 0) ∷ []
 

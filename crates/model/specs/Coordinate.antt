@@ -36,7 +36,7 @@ module _ (t : Tree) (off first cpu upto : ℕ) where
   abbrev pub domainOf : ℕ → ℕ
   domainOf = onPathOf (t .parents) first
 
-  -- a level below, of a domain, came out RUN
+  -- a level below came out RUN, and then so did the next lower one; level 0, the CPU's own, does not count
   abbrev pub runBelowb : ℕ → Coordinated → Bool
   runBelowb level x = leb 2 level && eqb (stateAt (x .resolved) (level - 1)) run
 

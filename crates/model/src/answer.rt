@@ -7,8 +7,8 @@ use crate::state::Domains;
 use crate::state::State;
 use crate::states::CompositeState;
 
-// What a call tells the platform or the SPM, where the Rust calls into their traits. Who is told a composite state is told the
-// resolved one.
+// What a call tells the platform or the SPM, where the Rust calls into their traits. A CPU that goes down hands over the resolved
+// states, one that wakes the stored ones along its path.
 pub enum Notice {
     // an unused place, after the last notice
     Nothing,

@@ -14,7 +14,6 @@ use model::answer::Notice;
 use model::code::Code;
 use model::cpu::EntryPoint;
 use model::sorts::CpuNumber;
-use model::state::State;
 use model::states::CompositeState;
 use outgoing::not_entered_out;
 use outgoing::nothing_out;

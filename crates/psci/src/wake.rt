@@ -12,7 +12,6 @@ use cpu_rows::with_cpu_record;
 use model::answer::CallAnswer;
 use model::code::Code;
 use model::sorts::CpuNumber;
-use model::state::State;
 use outgoing::nothing_out;
 use soundness::sound;
 
