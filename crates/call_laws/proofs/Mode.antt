@@ -1,5 +1,5 @@
 -- Set mode: its outcomes, in the order of the checks, and its rule.
-use mathlib.Core.Bool.{Bool, true, false, _||_}
+use mathlib.Core.Bool.{Bool, true, false}
 use mathlib.Core.Path.{_≡_, refl, sym, ap, _∙_}
 use Rattle.model.specs.declared.answer.CallAnswer.{CallAnswer}
 use Rattle.model.specs.declared.code.Code.the-variants as code
@@ -8,7 +8,7 @@ use Rattle.model.specs.declared.state.State.{State}
 use Rattle.model.specs.declared.state.SuspendMode.{SuspendMode}
 use Rattle.model.specs.declared.state.SuspendMode.the-variants as mode
 use Rattle.model.specs.Answer.{decided, nothingOut, accepted, refused}
-use Rattle.model.specs.Calls.{setSuspendModeOf, sameModeb, modeAllowedb}
+use Rattle.model.specs.Calls.{setSuspendModeOf, sameModeb, modeMayb}
 use Rattle.model.specs.State.{withMode}
 use Rattle.model.specs.StateQuery.{othersOffb, allOnb}
 use Rattle.call_laws.proofs.Answer.{OfRefusals, must-rule, last-rule}
@@ -22,7 +22,7 @@ same-mode mode.OsInitiated = refl
 module _ (s : State) (caller : CpuNumber) (feature : Bool) (wanted : SuspendMode) where
   -- the mode is the current one, or it is allowed
   abbrev may : Bool
-  may = sameModeb (s .mode) wanted || modeAllowedb wanted (othersOffb s (caller .0)) (allOnb s)
+  may = modeMayb (s .mode) wanted (othersOffb s (caller .0)) (allOnb s)
 
   abbrev pub modeDone : CallAnswer
   modeDone = accepted nothingOut (withMode s wanted)

@@ -1,5 +1,5 @@
 -- System suspend: its outcomes, in the order of the checks, and its rule.
-use mathlib.Core.Bool.{Bool, true, false, _&&_}
+use mathlib.Core.Bool.{Bool, true, false}
 use mathlib.Core.Path.{_≡_, refl, _∙_}
 use Rattle.model.specs.declared.answer.CallAnswer.{CallAnswer}
 use Rattle.model.specs.declared.answer.Notice.the-variants as notice
@@ -9,12 +9,12 @@ use Rattle.model.specs.declared.sorts.CpuNumber.{CpuNumber}
 use Rattle.model.specs.declared.state.State.{State}
 use Rattle.model.specs.declared.state.SuspendMode.the-variants as mode
 use Rattle.model.specs.declared.states.CompositeState.{CompositeState}
+use Rattle.model.specs.declared.states.Platform.{Platform}
 use Rattle.model.specs.Answer.{decided, notEnteredOut, accepted, refused}
-use Rattle.model.specs.Calls.{systemSuspendOf, platformCoordinatedb, unlessPending, entered}
-use Rattle.model.specs.Composite.{statesInRangeb, findHighestNonRunLevelOf, foundAtb, isValidSuspendRequestb, highestLevelStateOf}
-use Rattle.model.specs.State.{platformAt, maxAt}
+use Rattle.model.specs.Calls.{atMaxb, powersDownb, systemSuspendOf, platformCoordinatedb, unlessPending, entered}
+use Rattle.model.specs.Composite.{statesInRangeb}
+use Rattle.model.specs.State.{platformAt}
 use Rattle.model.specs.StateQuery.{othersOffb}
-use Rattle.model.specs.States.{downb}
 use Rattle.call_laws.proofs.Answer.{cond-rule, OfRefusals, must-rule, last-rule}
 use Rattle.call_laws.proofs.Caller.{Runs, runs-on, runs-rule}
 use Rattle.call_laws.proofs.Suspend.{is-platform-coordinated}
@@ -29,16 +29,8 @@ module _ (s : State) (caller : CpuNumber) (feature pending good : Bool) (e : Ent
   abbrev may : CallAnswer
   may = unlessPending s pending systemSuspendDone
 
-  abbrev inRange : Bool
-  inRange = statesInRangeb (platformAt s) asked
-
-  -- the highest level that is not RUN is MAX
-  abbrev atMax : Bool
-  atMax = foundAtb (findHighestNonRunLevelOf (platformAt s) asked) (maxAt s)
-
-  -- a valid request, power-down at MAX
-  abbrev powersDown : Bool
-  powersDown = isValidSuspendRequestb (platformAt s) asked && downb (platformAt s) (highestLevelStateOf (platformAt s) asked)
+  abbrev p : Platform
+  p = platformAt s
 
   module _ (r : Runs s (caller .0)) where
     pub system-suspend-absent : feature ≡ false → answer ≡ refused s code.NotSupported
@@ -56,21 +48,21 @@ module _ (s : State) (caller : CpuNumber) (feature pending good : Bool) (e : Ent
         system-suspend-bad-address h = runs-on s (caller .0) _ may r ∙ simp (h₁, h₂, h)
 
         module _ (h₃ : good ≡ true) where
-          pub system-suspend-out-of-range : inRange ≡ false → answer ≡ refused s code.Unusable
+          pub system-suspend-out-of-range : statesInRangeb p asked ≡ false → answer ≡ refused s code.Unusable
           unfolding systemSuspendOf decided
           system-suspend-out-of-range h = runs-on s (caller .0) _ may r ∙ simp (h₁, h₂, h₃, h)
 
-          module _ (h₄ : inRange ≡ true) where
-            pub system-suspend-below-max : atMax ≡ false → answer ≡ refused s code.Denied
+          module _ (h₄ : statesInRangeb p asked ≡ true) where
+            pub system-suspend-below-max : atMaxb p asked ≡ false → answer ≡ refused s code.Denied
             unfolding systemSuspendOf decided
             system-suspend-below-max h = runs-on s (caller .0) _ may r ∙ simp (h₁, h₂, h₃, h₄, h)
 
-            module _ (h₅ : atMax ≡ true) where
-              pub system-suspend-invalid : powersDown ≡ false → answer ≡ refused s code.Unusable
+            module _ (h₅ : atMaxb p asked ≡ true) where
+              pub system-suspend-invalid : powersDownb p asked ≡ false → answer ≡ refused s code.Unusable
               unfolding systemSuspendOf decided
               system-suspend-invalid h = runs-on s (caller .0) _ may r ∙ simp (h₁, h₂, h₃, h₄, h₅, h)
 
-              module _ (h₆ : powersDown ≡ true) where
+              module _ (h₆ : powersDownb p asked ≡ true) where
                 pub system-suspend-os-initiated : s .mode ≡ mode.OsInitiated → answer ≡ refused s code.OsInitiated
                 unfolding systemSuspendOf decided
                 system-suspend-os-initiated h = runs-on s (caller .0) _ may r ∙ simp (h₁, h₂, h₃, h₄, h₅, h₆, h)
@@ -88,8 +80,8 @@ module _ (s : State) (caller : CpuNumber) (feature pending good : Bool) (e : Ent
   pub record SystemSuspendAccepted : Type 0 where
     pub caller-runs : Runs s (caller .0)
     pub last : othersOffb s (caller .0) ≡ true
-    pub at-max : atMax ≡ true
-    pub powers-down : powersDown ≡ true
+    pub at-max : atMaxb p asked ≡ true
+    pub powers-down : powersDownb p asked ≡ true
     pub coordinates : s .mode ≡ mode.PlatformCoordinated
 
   pub system-suspend-rule : (P : CallAnswer → Type 0) → OfRefusals P s →
@@ -100,9 +92,9 @@ module _ (s : State) (caller : CpuNumber) (feature pending good : Bool) (e : Ent
       (λ r. must-rule P s may refusal feature code.NotSupported _ refl
       (λ _. must-rule P s may refusal (othersOffb s (caller .0)) code.Denied _ refl
       (λ a. must-rule P s may refusal good code.InvalidAddress _ refl
-      (λ _. must-rule P s may refusal inRange code.Unusable _ refl
-      (λ _. must-rule P s may refusal atMax code.Denied _ refl
-      (λ b. must-rule P s may refusal powersDown code.Unusable _ refl
+      (λ _. must-rule P s may refusal (statesInRangeb p asked) code.Unusable _ refl
+      (λ _. must-rule P s may refusal (atMaxb p asked) code.Denied _ refl
+      (λ b. must-rule P s may refusal (powersDownb p asked) code.Unusable _ refl
       (λ c. must-rule P s may refusal (platformCoordinatedb (s .mode)) code.OsInitiated _ refl
       (λ d. last-rule P s may refusal code.Accepted
       (λ _. let facts : SystemSuspendAccepted = record {

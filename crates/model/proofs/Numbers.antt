@@ -1,7 +1,7 @@
 -- Laws on the numbers given back and on a platform's answer.
 use Prim.Native.Nat.{ℕ, zero, suc, _-_, _<_, _≤_}
-use mathlib.Core.Bool.{Bool, true, false, cond, _||_}
-use mathlib.Core.Path.{_≡_, refl, sym}
+use mathlib.Core.Bool.{Bool, true, false, cond, _||_, true≢false}
+use mathlib.Core.Path.{_≡_, refl, sym, ap, _∙_}
 use native.Mathlib.Omega.{arith}
 use borrow.Author.Tests.{ltb-true, ltb-false, leb-true, leb-false, lt-ltb, le-ltb, lt-leb, ne-eqb}
 use lib.Dec.{ltb, leb, eqb}
@@ -10,7 +10,7 @@ use lib.ListN.{length, getD, List·getD-eq-default}
 use Rattle.basics.proofs.Lists.{getD-inside}
 use Rattle.model.specs.declared.code.Code.{Code}
 use Rattle.model.specs.declared.code.Code.the-variants as code
-use Rattle.model.specs.Numbers.{minus, numberOf, signedOf, errors, answerOfNumber, answerOf, usableNumberb, usableb}
+use Rattle.model.specs.Numbers.{minus, numberOf, acceptedb, signedOf, errors, answerOfNumber, answerOf, usableNumberb, usableb}
 
 above : (n : ℕ) → 0 < n → answerOfNumber (pos n) ≡ code.Unusable
 above zero h = absurd (omega arith)
@@ -43,7 +43,45 @@ answer-of (pos zero) h = refl
 answer-of (pos (suc n)) h = absurd (h refl)
 answer-of (negsuc n) h = error-of n h
 
+-- what is not usable is unusable
+not-usable : (z : ℤ) → usableNumberb z ≡ false → answerOfNumber z ≡ code.Unusable
+not-usable (pos zero) h = absurd (true≢false h)
+not-usable (pos (suc n)) h = refl
+not-usable (negsuc n) h = List·getD-eq-default errors code.Unusable (ltb-false n (length errors) h)
+
+-- an error is not 106: its number is negative
+below-zero : ℤ → Bool
+below-zero (pos n) = false
+below-zero (negsuc n) = true
+
+negative : (n : ℕ) → n < 9 → below-zero (numberOf (getD errors n code.Unusable)) ≡ true
+unfolding below-zero
+negative zero h = refl
+negative (suc zero) h = refl
+negative (suc (suc zero)) h = refl
+negative (suc (suc (suc zero))) h = refl
+negative (suc (suc (suc (suc zero)))) h = refl
+negative (suc (suc (suc (suc (suc zero))))) h = refl
+negative (suc (suc (suc (suc (suc (suc zero)))))) h = refl
+negative (suc (suc (suc (suc (suc (suc (suc zero))))))) h = refl
+negative (suc (suc (suc (suc (suc (suc (suc (suc zero)))))))) h = refl
+negative (suc (suc (suc (suc (suc (suc (suc (suc (suc n))))))))) h = absurd (omega arith)
+
+is-usable : (z : ℤ) → usableNumberb z ≡ true → answerOfNumber z ≡ code.Unusable → ⊥
+unfolding below-zero
+is-usable (pos zero) h e = true≢false (ap acceptedb e)
+is-usable (pos (suc n)) h e = true≢false (sym h)
+is-usable (negsuc n) h e =
+    true≢false (sym (negative n (ltb-true n (length errors) h)) ∙ ap (λ (k : Code). below-zero (numberOf k)) e)
+
 module _ (b : ℕ) where
+  -- 106 is answered for exactly the bytes that are no answer
+  pub unusable-is : usableb b ≡ false → answerOf b ≡ code.Unusable
+  unusable-is = not-usable (signedOf b)
+
+  pub usable-is : usableb b ≡ true → answerOf b ≡ code.Unusable → ⊥
+  usable-is = is-usable (signedOf b)
+
   -- a byte that is neither 0 nor FFh to F7h is no answer
   pub no-answer : 0 < b → b < 247 → answerOf b ≡ code.Unusable
   no-answer p q = go (ltb b 128) refl

@@ -29,8 +29,8 @@ use Rattle.model.specs.Sound.{entryDueb}
 use Rattle.model.specs.SoundTest.{soundb}
 use Rattle.model.specs.State.{stateOf, platformAt, cpuCount, cpuAt, withMode, withCpu}
 use Rattle.model.specs.StateQuery.{othersOffb, allOnb}
-use Rattle.model.specs.Steps.{pendedOf, offStep, enterStep, finishStep, bootStep}
 use Rattle.model.specs.States.{run, downb}
+use Rattle.model.specs.Steps.{pendedOf, offStep, enterStep, finishStep, bootStep}
 
 -- a CPU is running: On and RUN
 abbrev pub runningb : CpuPowerNode → Bool
@@ -97,8 +97,11 @@ cpuSuspendStartOf s caller pending e asked =
     (unlessPending s pending (entered s (caller .0) asked e (notice.SpmToldSuspend e)))
 
 -- Finish: due when On and not RUN
+abbrev pub finishDueb : CpuPowerNode → Bool
+finishDueb c = onb (c .«affinity_info») && not (eqb (c .«local_state») run)
+
 abbrev pub finishCode : CpuPowerNode → Code
-finishCode c = must (onb (c .«affinity_info») && not (eqb (c .«local_state») run)) code.NotDue code.Accepted
+finishCode c = must (finishDueb c) code.NotDue code.Accepted
 
 unfoldable pub cpuSuspendFinishOf : State → CpuNumber → CallAnswer
 cpuSuspendFinishOf s cpu =
@@ -106,13 +109,24 @@ cpuSuspendFinishOf s cpu =
     (acted s (cpu .0) (finishStep (s .tree) (s .domains) (platformAt s)))
 
 -- Boot: due when OnPending, or On with a power-down CPU state: then an entry is due
+abbrev pub bootDueb : Platform → CpuPowerNode → Bool
+bootDueb p c = entryDueb p (c .«affinity_info») (c .«local_state»)
+
 abbrev pub bootCode : Platform → CpuPowerNode → Code
-bootCode p c = must (entryDueb p (c .«affinity_info») (c .«local_state»)) code.NotDue code.Accepted
+bootCode p c = must (bootDueb p c) code.NotDue code.Accepted
 
 unfoldable pub handleCpuBootOf : State → CpuNumber → CallAnswer
 handleCpuBootOf s cpu =
     decided s (forCpu s (cpu .0) (bootCode (platformAt s) (cpuAt s (cpu .0))))
     (acted s (cpu .0) (bootStep (s .tree) (s .domains) (platformAt s)))
+
+-- the highest level that is not RUN is MAX
+abbrev pub atMaxb : Platform → CompositeState → Bool
+atMaxb p asked = foundAtb (findHighestNonRunLevelOf p asked) (p .max .0)
+
+-- a valid request, and power-down at MAX
+abbrev pub powersDownb : Platform → CompositeState → Bool
+powersDownb p asked = isValidSuspendRequestb p asked && downb p (highestLevelStateOf p asked)
 
 -- System suspend: -1; -3 unless every other CPU is Off; -9; 106 if a state is out of range; -3 unless the highest non-RUN level
 -- is MAX; 106 unless valid and power-down at MAX; 107
@@ -122,8 +136,8 @@ systemSuspendCode p m feature last good asked =
     (must last code.Denied
     (must good code.InvalidAddress
     (must (statesInRangeb p asked) code.Unusable
-    (must (foundAtb (findHighestNonRunLevelOf p asked) (p .max .0)) code.Denied
-    (must (isValidSuspendRequestb p asked && downb p (highestLevelStateOf p asked)) code.Unusable
+    (must (atMaxb p asked) code.Denied
+    (must (powersDownb p asked) code.Unusable
     (must (platformCoordinatedb m) code.OsInitiated code.Accepted))))))
 
 unfoldable pub systemSuspendOf : State → CpuNumber → Bool → Bool → Bool → EntryPoint → CompositeState → CallAnswer
@@ -142,10 +156,14 @@ abbrev pub modeAllowedb : SuspendMode → (last all : Bool) → Bool
 modeAllowedb mode.PlatformCoordinated last all = last
 modeAllowedb mode.OsInitiated last all = all || last
 
+-- the mode is the current one, or it is allowed
+abbrev pub modeMayb : (now wanted : SuspendMode) → (last all : Bool) → Bool
+modeMayb now wanted last all = sameModeb now wanted || modeAllowedb wanted last all
+
 -- Set mode: -1; the current mode gives 0; -3 unless it is allowed
 abbrev pub modeCode : (feature : Bool) → (now wanted : SuspendMode) → (last all : Bool) → Code
 modeCode feature now wanted last all =
-    must feature code.NotSupported (must (sameModeb now wanted || modeAllowedb wanted last all) code.Denied code.Accepted)
+    must feature code.NotSupported (must (modeMayb now wanted last all) code.Denied code.Accepted)
 
 unfoldable pub setSuspendModeOf : State → CpuNumber → Bool → SuspendMode → CallAnswer
 setSuspendModeOf s caller feature wanted =
