@@ -83,7 +83,7 @@ fn bring_up(s: State, cpu: CpuNumber) -> State
 }
 
 // A state of zeros.
-fn no_state() -> State
+pub fn no_state() -> State
     ensures { λ r. ⌜ r ≡ noState ⌝ }
 {
     let platform = Platform {

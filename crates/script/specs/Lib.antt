@@ -1,0 +1,5 @@
+pub mod Bytes
+pub mod Record
+pub mod AnswerRecord
+pub mod Run
+pub mod Printed

@@ -1,0 +1,10 @@
+pub mod Bytes
+pub mod Digits
+pub mod Parts
+pub mod AnswerRecord
+pub mod Record
+pub mod Start
+pub mod Run
+pub mod Reached
+pub mod Counted
+pub mod Example
