@@ -29,6 +29,10 @@ readCodeOf read.End = code.Accepted
 readCodeOf (read.Event c next) = code.Accepted
 readCodeOf read.Malformed = code.Malformed
 
+abbrev pub readBoardCodeOf : ReadBoard → Code
+readBoardCodeOf (board.Board p primary next) = code.Accepted
+readBoardCodeOf board.Malformed = code.Malformed
+
 -- what is left of the input starts with the record
 module _ (l : List ℕ) where
   -- its length

@@ -20,7 +20,7 @@ use Rattle.script.specs.declared.run.EventAnswer.{EventAnswer}
 use Rattle.script.specs.declared.run.RunAnswer.{RunAnswer}
 use Rattle.script.specs.declared.run.Start.{Start}
 use Rattle.script.specs.AnswerRecord.{answerSize, namedOf, shownOf, answerBytes}
-use Rattle.script.specs.Record.{readCodeOf, emptyb, readOf, topologyPlace, readBoardOf}
+use Rattle.script.specs.Record.{readCodeOf, readBoardCodeOf, emptyb, readOf, topologyPlace, readBoardOf}
 
 -- the topology of a board record of this length
 abbrev pub topologyIn : ℕ → List ℕ → List ℕ
@@ -33,7 +33,7 @@ startAt next f = record { code = f .code; next = next; state = f .state }
 -- a script starts fresh on the board of its first record; 108, or 101
 abbrev pub startWith : ReadBoard → List ℕ → Start
 startWith (board.Board p primary next) l = startAt next (freshOf p primary (topologyIn next l))
-startWith board.Malformed l = record { code = code.Malformed; next = 0; state = noState }
+startWith board.Malformed l = record { code = readBoardCodeOf board.Malformed; next = 0; state = noState }
 
 unfoldable pub startOf : List ℕ → Start
 startOf l = startWith (readBoardOf l) l

@@ -1,3 +1,4 @@
+use native.Mathlib.Omega.{arith}
 use borrow.Author.Needs.{needs}
 use Rattle.text.proofs.Digits.{signed-positive, signed-negative}
 use Rattle.text.proofs.Puts.{then, alike}
@@ -8,7 +9,7 @@ returns : tie.Need-returns
 returns c =
     let k = c .before .before in
     let a = k .before .before .before .before .args in
-    (alike (k .put-decimal .ensures .0) (signed-positive (a .byte) (k .before .before .if1 .taken)), search needs)
+    (alike (k .put-decimal .ensures .0) (signed-positive (a .byte) (omega (arith, k .before .before .if1 .taken))), search needs)
 
 returns-2 : tie.Need-returns-2
 returns-2 c =
