@@ -1,18 +1,13 @@
 -- How an answer is decided, and what its checks say.
-use mathlib.Core.Bool.{Bool, true, false, cond, true≢false}
+use mathlib.Core.Bool.{Bool, true, false, true≢false}
 use mathlib.Core.Path.{_≡_, refl, sym}
+use Rattle.basics.proofs.Tests.{cond-rule}
 use Rattle.model.specs.declared.answer.CallAnswer.{CallAnswer}
 use Rattle.model.specs.declared.code.Code.{Code}
 use Rattle.model.specs.declared.code.Code.the-variants as code
 use Rattle.model.specs.declared.state.State.{State}
 use Rattle.model.specs.Answer.{decided, refused, must}
 use Rattle.model.specs.Numbers.{acceptedb}
-
--- what holds of both choices, each where it is made, holds of the choice
-pub cond-rule : {A : Type 0} (P : A → Type 0) (b : Bool) {x y : A} → (b ≡ true → P x) → (b ≡ false → P y) →
-    P (cond b x y)
-cond-rule P true p q = p refl
-cond-rule P false p q = q refl
 
 module _ (s : State) (k : Code) (done : CallAnswer) where
   pub decided-yes : acceptedb k ≡ true → decided s k done ≡ done

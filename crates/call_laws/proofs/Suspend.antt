@@ -1,6 +1,7 @@
 -- Suspend: its outcomes, in the order of the checks, and its rule.
 use mathlib.Core.Bool.{Bool, true, false, true≢false}
 use mathlib.Core.Path.{_≡_, refl, sym, _∙_}
+use Rattle.basics.proofs.Tests.{cond-rule}
 use Rattle.model.specs.declared.answer.CallAnswer.{CallAnswer}
 use Rattle.model.specs.declared.answer.Notice.the-variants as notice
 use Rattle.model.specs.declared.code.Code.the-variants as code
@@ -14,7 +15,7 @@ use Rattle.model.specs.Answer.{decided, notEnteredOut, accepted, refused}
 use Rattle.model.specs.Calls.{cpuSuspendStartOf, platformCoordinatedb, unlessPending, entered}
 use Rattle.model.specs.Composite.{isValidSuspendRequestb}
 use Rattle.model.specs.State.{platformAt}
-use Rattle.call_laws.proofs.Answer.{cond-rule, OfRefusals, must-rule, last-rule}
+use Rattle.call_laws.proofs.Answer.{OfRefusals, must-rule, last-rule}
 use Rattle.call_laws.proofs.Caller.{Runs, runs-on, runs-rule}
 
 -- a mode that is platform-coordinated

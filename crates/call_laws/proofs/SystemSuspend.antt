@@ -1,6 +1,7 @@
 -- System suspend: its outcomes, in the order of the checks, and its rule.
 use mathlib.Core.Bool.{Bool, true, false}
 use mathlib.Core.Path.{_≡_, refl, _∙_}
+use Rattle.basics.proofs.Tests.{cond-rule}
 use Rattle.model.specs.declared.answer.CallAnswer.{CallAnswer}
 use Rattle.model.specs.declared.answer.Notice.the-variants as notice
 use Rattle.model.specs.declared.code.Code.the-variants as code
@@ -15,7 +16,7 @@ use Rattle.model.specs.Calls.{atMaxb, powersDownb, systemSuspendOf, platformCoo
 use Rattle.model.specs.Composite.{statesInRangeb}
 use Rattle.model.specs.State.{platformAt}
 use Rattle.model.specs.StateQuery.{othersOffb}
-use Rattle.call_laws.proofs.Answer.{cond-rule, OfRefusals, must-rule, last-rule}
+use Rattle.call_laws.proofs.Answer.{OfRefusals, must-rule, last-rule}
 use Rattle.call_laws.proofs.Caller.{Runs, runs-on, runs-rule}
 use Rattle.call_laws.proofs.Suspend.{is-platform-coordinated}
 

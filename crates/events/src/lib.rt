@@ -4,7 +4,7 @@ ghost use mathlib.Core.Path.{_≡_};
 ghost use lib.Dec.{ltb};
 ghost use Rattle.model.specs.Calls.{callOf};
 ghost use Rattle.model.specs.Path.{localStatesOf};
-ghost use Rattle.script.specs.AnswerRecord.{namedOf, noStates};
+ghost use Rattle.script.specs.AnswerRecord.{namedOf, noCpuStates};
 ghost use Rattle.script.specs.Run.{eventAnswerOf};
 use cpu_rows::cpu_in;
 use model::answer::CallAnswer;
@@ -18,7 +18,7 @@ use model::state::State;
 use model::states::CompositeState;
 use paths::ancestors::local_states_from_nodes;
 use psci::Psci;
-use script::limits::NO_STATE;
+use script::limits::NO_CPU_STATE;
 use script::run::EventAnswer;
 
 // The CPU that an event names: the target for on.
@@ -59,23 +59,23 @@ pub fn call(state: State, call: Call) -> CallAnswer
 }
 
 // The stored states along a CPU's path, or FFh at each level if there is no such CPU.
-pub fn shown_states(
+fn shown_states(
     tree: Tree,
     domains: Domains,
     max: PowerLevel,
     cpu: CpuNumber,
     node: CpuPowerNode,
 ) -> CompositeState
-    ensures { λ r. ⌜ r ≡ cond (ltb (cpu .0) (tree .«cpu_count»)) (localStatesOf (tree .parents) (domains .states) (max .0) node) noStates ⌝ }
+    ensures { λ r. ⌜ r ≡ cond (ltb (cpu .0) (tree .«cpu_count»)) (localStatesOf (tree .parents) (domains .states) (max .0) node) noCpuStates ⌝ }
 {
     if cpu.0 < tree.cpu_count {
         return local_states_from_nodes(&tree.parents, &domains.states, max, node);
     }
     CompositeState {
-        level0: NO_STATE,
-        level1: NO_STATE,
-        level2: NO_STATE,
-        level3: NO_STATE,
+        level0: NO_CPU_STATE,
+        level1: NO_CPU_STATE,
+        level2: NO_CPU_STATE,
+        level3: NO_CPU_STATE,
     }
 }
 

@@ -1,6 +1,6 @@
 -- What is printed: each way that it can be, and its length.
 use Prim.Native.Nat.{ℕ, _-_, _<_, _≤_}
-use mathlib.Core.Bool.{Bool, true, false, cond}
+use mathlib.Core.Bool.{true, false}
 use mathlib.Core.List.{List, _++_}
 use mathlib.Core.Path.{_≡_, sym, ap, _∙_}
 use native.Mathlib.Omega.{arith}
@@ -8,8 +8,10 @@ use borrow.Author.Tests.{lt-ltb, le-ltb}
 use lib.Dec.{ltb}
 use lib.ListN.{length, take, drop}
 use lib.Seq.{sets}
+use Rattle.basics.proofs.Tests.{cond-rule}
 use Rattle.model.specs.Numbers.{acceptedb}
 use Rattle.model.specs.State.{maxAt}
+use Rattle.model.specs.declared.code.Code.{Code}
 use Rattle.model.specs.declared.code.Code.the-variants as code
 use Rattle.model.specs.declared.state.State.{State}
 use Rattle.script.specs.declared.run.RunAnswer.{RunAnswer}
@@ -52,25 +54,21 @@ module _ (input : List ℕ) where
 -- no text is longer
 pub printed-length : (input : List ℕ) → length (printedOf input) ≤ textMost
 unfolding printedOf
-printed-length input = by (ltb inputLimit (length input)) (acceptedb (startOf input .code))
+printed-length input =
+    let short : List ℕ → Type 0 = λ l. length l ≤ textMost in
+    cond-rule short (ltb inputLimit (length input)) (λ _. line code.NoRoom)
+    (λ _. cond-rule short (acceptedb (startOf input .code)) (λ _. run) (λ _. line (startOf input .code)))
   where
-    s : State
-    s = startOf input .state
+    line : (k : Code) → length (refusedLine k) ≤ textMost
+    line k = let l = refused-length k in omega (arith, l)
 
-    most : length (runText s (scriptRunOf input)) ≤ textMost
-    most =
+    run : length (runText (startOf input .state) (scriptRunOf input)) ≤ textMost
+    run =
+        let s : State = startOf input .state in
         let r : Run = scriptRunOf input in
         let l = run-length s (r .answer .events) (r .bytes) (r .answer .closing) (start-max input) in
         let u = run-counted eventLimit answerRoom (drop (startOf input .next) input) 0 s .upto in
         omega (arith, l, u)
-
-    by : (long good : Bool) →
-        length
-        (cond long (refusedLine code.NoRoom) (cond good (runText s (scriptRunOf input)) (refusedLine (startOf input .code))))
-        ≤ textMost
-    by true good = let l = refused-length code.NoRoom in omega (arith, l)
-    by false true = most
-    by false false = let l = refused-length (startOf input .code) in omega (arith, l)
 
 -- what is printed is put at the front, in the terms of the contract
 pub put-is : (input : List ℕ) {t u xs : List ℕ} {n : ℕ} → Put t 0 xs u n → printedOf input ≡ xs →

@@ -24,11 +24,11 @@ abbrev pub answerKind : ℕ
 answerKind = 256
 
 -- the byte at each level where there is no such CPU
-abbrev pub noState : ℕ
-noState = 255
+abbrev pub noCpuState : ℕ
+noCpuState = 255
 
-abbrev pub noStates : CompositeState
-noStates = record { level0 = noState; level1 = noState; level2 = noState; level3 = noState }
+abbrev pub noCpuStates : CompositeState
+noCpuStates = record { level0 = noCpuState; level1 = noCpuState; level2 = noCpuState; level3 = noCpuState }
 
 -- the CPU that an event names: the target for on
 abbrev pub namedOf : Call → CpuNumber
@@ -42,7 +42,7 @@ namedOf (call.SetMode caller feature wanted) = caller
 
 -- the stored states from level 0 up the path of a CPU, 0 above MAX; FFh four times if there is no such CPU
 abbrev pub shownOf : State → CpuNumber → CompositeState
-shownOf s cpu = cond (ltb (cpu .0) (cpuCount s)) (statesAlong s (cpu .0)) noStates
+shownOf s cpu = cond (ltb (cpu .0) (cpuCount s)) (statesAlong s (cpu .0)) noCpuStates
 
 -- length, kind, event number in four bytes, signed code, four states
 unfoldable pub answerBytes : ℕ → Code → CompositeState → List ℕ

@@ -10,7 +10,7 @@ use Rattle.model.specs.State.{maxAt, domainCount, cpuCount}
 use Rattle.model.specs.declared.code.Code.{Code}
 use Rattle.model.specs.declared.code.Code.the-variants as code
 use Rattle.model.specs.declared.state.State.{State}
-use Rattle.script.specs.AnswerRecord.{answerSize, noState}
+use Rattle.script.specs.AnswerRecord.{answerSize, noCpuState}
 use Rattle.script.specs.Bytes.{byteAt, numberAt}
 use Rattle.script.specs.Run.{Run, startOf, runOf}
 
@@ -79,7 +79,7 @@ statesText (suc n) l place = space ∷ decimalOf (byteAt l place) ++ statesText 
 
 -- the states of levels 0 to MAX, or a dash where no such CPU exists
 abbrev pub shownText : ℕ → List ℕ → List ℕ
-shownText max l = cond (eqb (byteAt l 9) noState) (space ∷ dash ∷ []) (statesText (suc max) l 9)
+shownText max l = cond (eqb (byteAt l 9) noCpuState) (space ∷ dash ∷ []) (statesText (suc max) l 9)
 
 -- a line for an answer record: event number, code, states
 unfoldable pub answerLine : ℕ → List ℕ → List ℕ

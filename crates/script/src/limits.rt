@@ -2,7 +2,7 @@
 pub const ANSWER: usize = 13;
 
 // The byte at each level of an answer record where there is no such CPU.
-pub const NO_STATE: u8 = 255;
+pub const NO_CPU_STATE: u8 = 255;
 
 // Where the topology stands in a board record.
 pub const TOPOLOGY: usize = 9;

@@ -1,6 +1,6 @@
 -- A run's count: no more events than the budget, and thirteen bytes for each.
 use Prim.Native.Nat.{ℕ, zero, suc, _+_, _-_, _*_, _≤_}
-use mathlib.Core.Bool.{Bool, true, false, cond}
+use mathlib.Core.Bool.{cond}
 use mathlib.Core.List.{List}
 use mathlib.Core.Path.{_≡_, refl, _∙_}
 use native.Mathlib.Omega.{arith}
@@ -8,6 +8,7 @@ use borrow.Author.Tests.{ltb-false}
 use lib.Dec.{ltb}
 use lib.ListN.{length, take, drop, length-append}
 use lib.Seq.{take-at}
+use Rattle.basics.proofs.Tests.{cond-rule}
 use Rattle.model.specs.State.{maxAt}
 use Rattle.model.specs.declared.call.Call.{Call}
 use Rattle.model.specs.declared.code.Code.{Code}
@@ -53,10 +54,6 @@ counted-event taken budget room m r n h c =
       said = c .said;
     }
 
-by : (P : Run → Type 0) (test : Bool) {x y : Run} → P x → (test ≡ false → P y) → P (cond test x y)
-by P true p q = p
-by P false p q = q refl
-
 event-or : (P : Run → Type 0) (x : Read) {stop : Code → Run} {f : Call → ℕ → Run} → ((k : Code) → P (stop k)) →
     ((c : Call) (next : ℕ) → P (f c next)) → P (eventOr x stop f)
 event-or P read.End p q = p code.Accepted
@@ -69,8 +66,8 @@ unfolding runOf
 run-counted zero room l taken s = counted-stop taken 0 room (cond (emptyb l) code.Accepted code.BudgetSpent) s
 run-counted (suc budget) room l taken s =
     event-or (Counted taken (suc budget) room) (readOf (maxAt s) l) (λ k. counted-stop taken (suc budget) room k s)
-    (λ c next. by (Counted taken (suc budget) room) (ltb room answerSize)
-    (counted-stop taken (suc budget) room code.NoRoom s)
+    (λ c next. cond-rule (Counted taken (suc budget) room) (ltb room answerSize)
+    (λ _. counted-stop taken (suc budget) room code.NoRoom s)
     (λ h. counted-event taken budget room (recordOfEvent (taken + 1) (eventAnswerOf s c)) _
     (answer-length (taken + 1) (eventAnswerOf s c .code) (eventAnswerOf s c .shown)) (ltb-false room answerSize h)
     (run-counted budget (room - answerSize) (drop next l) (taken + 1) (eventAnswerOf s c .state))))

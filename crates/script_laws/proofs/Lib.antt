@@ -1,5 +1,5 @@
 pub mod Bytes
-pub mod Digits
+pub mod Decimal
 pub mod Parts
 pub mod AnswerRecord
 pub mod Record

@@ -1,6 +1,6 @@
 -- What holds of whatever is read: an event's record lies within the input, and so does the board's.
 use Prim.Native.Nat.{ℕ, _+_, _-_, _<_, _≤_}
-use mathlib.Core.Bool.{Bool, true, false, cond, _&&_, and-eq-true-iff}
+use mathlib.Core.Bool.{Bool, true, _&&_, and-eq-true-iff}
 use mathlib.Core.List.{List, [], _∷_}
 use mathlib.Core.Path.{_≡_, refl, sym, ap, subst, _∙_}
 use native.Mathlib.Omega.{arith}
@@ -9,6 +9,7 @@ use denote.Enum.Declared.{tagOf}
 use lib.Dec.{eqb, leb}
 use lib.ListN.{length, take, drop}
 use types.Run.{OneOf, miss}
+use Rattle.basics.proofs.Tests.{cond-rule}
 use Rattle.model.specs.Numbers.{usableb}
 use Rattle.model.specs.declared.call.Call.{Call}
 use Rattle.model.specs.declared.sorts.CpuNumber.{CpuNumber}
@@ -23,11 +24,6 @@ use Rattle.script.specs.Record.{boardRecordb, bootIn, cutb, emptyb, eventIf, fi
 use Rattle.script.specs.Record.{readBoardOf, readOf, recordOf, setModeIn, sizeIn, statesIn, suspendIn, systemSuspendIn}
 use Rattle.script.specs.Record.{topologyPlace, zeroAboveb}
 use Rattle.script_laws.proofs.Parts.{all-left}
-
--- what holds on each side of a test
-by : {A : Type 0} (P : A → Type 0) (test : Bool) {x y : A} → (test ≡ true → P x) → (test ≡ false → P y) → P (cond test x y)
-by P true p q = p refl
-by P false p q = q refl
 
 -- a record of this kind has this length
 sized : (l : List ℕ) (kind size : ℕ) → isb l kind size ≡ true → sizeIn l ≡ size
@@ -46,27 +42,27 @@ module _ (l : List ℕ) where
     known kind size h some = let long = sized l kind size h in (omega arith, fits)
 
     event : (good : Bool) (c : Call) → (5 ≤ sizeIn l) × (sizeIn l ≤ length l) → Within (eventIf good c l)
-    event good c h = by Within good (λ _. h) (λ _. tt)
+    event good c h = cond-rule Within good (λ _. h) (λ _. tt)
 
     record-within : (max : ℕ) → Within (recordOf max l)
     unfolding recordOf onIn offIn suspendIn finishIn bootIn systemSuspendIn setModeIn
     record-within max =
-        by Within (isb l 1 24) (λ h. event (flagb l 22 && usableb (byteAt l 23)) _ (known 1 24 h (omega arith)))
-        (λ _. by Within (isb l 2 6) (λ h. event (usableb (byteAt l 5)) _ (known 2 6 h (omega arith)))
-        (λ _. by Within (isb l 3 26)
+        cond-rule Within (isb l 1 24) (λ h. event (flagb l 22 && usableb (byteAt l 23)) _ (known 1 24 h (omega arith)))
+        (λ _. cond-rule Within (isb l 2 6) (λ h. event (usableb (byteAt l 5)) _ (known 2 6 h (omega arith)))
+        (λ _. cond-rule Within (isb l 3 26)
         (λ h. event (flagb l 5 && zeroAboveb max (statesIn l 22)) _ (known 3 26 h (omega arith)))
-        (λ _. by Within (isb l 4 5) (λ h. known 4 5 h (omega arith))
-        (λ _. by Within (isb l 5 5) (λ h. known 5 5 h (omega arith))
-        (λ _. by Within (isb l 6 28)
+        (λ _. cond-rule Within (isb l 4 5) (λ h. known 4 5 h (omega arith))
+        (λ _. cond-rule Within (isb l 5 5) (λ h. known 5 5 h (omega arith))
+        (λ _. cond-rule Within (isb l 6 28)
         (λ h. event (flagb l 5 && flagb l 6 && flagb l 7 && zeroAboveb max (statesIn l 24)) _ (known 6 28 h (omega arith)))
-        (λ _. by Within (isb l 7 7) (λ h. event (flagb l 5 && flagb l 6) _ (known 7 7 h (omega arith)))
+        (λ _. cond-rule Within (isb l 7 7) (λ h. event (flagb l 5 && flagb l 6) _ (known 7 7 h (omega arith)))
         (λ _. tt)))))))
 
   within : (max : ℕ) → Within (readOf max l)
   unfolding readOf
   within max =
-      by Within (emptyb l) (λ h. eqb-true (length l) 0 h)
-      (λ _. by Within (cutb l) (λ _. tt) (λ h. record-within (ltb-false _ _ h) max))
+      cond-rule Within (emptyb l) (λ h. eqb-true (length l) 0 h)
+      (λ _. cond-rule Within (cutb l) (λ _. tt) (λ h. record-within (ltb-false _ _ h) max))
 
 -- where nothing is left, the end is read
 pub read-end : (max : ℕ) (l : List ℕ) → length l ≡ 0 → readOf max l ≡ read.End
@@ -110,7 +106,7 @@ module _ (l : List ℕ) where
   read-board-within : BoardWithin (readBoardOf l)
   unfolding readBoardOf
   read-board-within =
-      by BoardWithin (boardRecordb l)
+      cond-rule BoardWithin (boardRecordb l)
       (λ h.
       let parts = and-eq-true-iff (isb l 16 (topologyPlace + byteAt l 8)) (leb (sizeIn l) (length l)) .0 h in
       let long = sized l 16 (topologyPlace + byteAt l 8) (parts .0) in

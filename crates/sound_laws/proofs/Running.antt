@@ -1,6 +1,5 @@
 -- What set_running leaves in the rows.
-use Prim.Native.Nat.{ℕ, zero, suc, _-_, _<_, _≤_}
-use mathlib.Core.Bool.{Bool, true, false, cond}
+use Prim.Native.Nat.{ℕ, zero, suc, _<_, _≤_}
 use mathlib.Core.List.{List}
 use mathlib.Core.Logic.{_⊎_, inl, inr, ⊎-elim}
 use mathlib.Core.Path.{_≡_, refl, ap, _∙_}
@@ -10,7 +9,7 @@ use lib.Dec.{eqb, ltb}
 use lib.ListN.{getD, set}
 use lib.Seq.{getD-set-other}
 use Rattle.basics.proofs.Lists.{getD-set-default, set-same}
-use Rattle.basics.proofs.Tests.{by}
+use Rattle.basics.proofs.Tests.{by, cond-rule}
 use Rattle.model.specs.declared.state.Domains.{Domains}
 use Rattle.model.specs.Limits.{cpuLimit}
 use Rattle.model.specs.Node.{noSuspendState}
@@ -33,10 +32,6 @@ store-either row i k =
     by (eqb k i)
     (λ e. let z = eqb-true k i e in inl (ap (λ (j : ℕ). getD (set row i 0) j 0) z ∙ getD-set-default row i 0))
     (λ e. inr (getD-set-other row i k 0 0 (eqb-false k i e)))
-
-cond-either : (b : Bool) (P : List ℕ → Type 0) (x y : List ℕ) → P x → P y → P (cond b x y)
-cond-either true P x y p q = p
-cond-either false P x y p q = q
 
 module _ (parents : List ℕ) (max first cpu : ℕ) (x : Domains) where
   abbrev after : ℕ → Domains
@@ -77,9 +72,9 @@ module _ (parents : List ℕ) (max first cpu : ℕ) (x : Domains) where
   copy-either zero k = inr refl
   copy-either (suc n) k =
       ⊎-elim inl (λ e. ⊎-elim (λ f. inl (e ∙ f)) (λ f. inr (e ∙ f)) (copy-either n k))
-      (cond-either (ltb (suc n) max) (λ row. (getD row k 0 ≡ 0) ⊎ (getD row k 0 ≡ getD (after n .copies) k 0))
-      (set (after n .copies) (aboveOf parents first n) run) (after n .copies)
-      (store-either (after n .copies) (aboveOf parents first n) k) (inr refl))
+      (cond-rule (λ row. (getD row k 0 ≡ 0) ⊎ (getD row k 0 ≡ getD (after n .copies) k 0)) (ltb (suc n) max)
+      {x = set (after n .copies) (aboveOf parents first n) run} {y = after n .copies}
+      (λ _. store-either (after n .copies) (aboveOf parents first n) k) (λ _. inr refl))
 
   module _ (is-cpu : cpu < cpuLimit) where
     -- the CPU asks for RUN at these levels

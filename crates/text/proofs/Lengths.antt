@@ -10,7 +10,7 @@ use Rattle.model.specs.Numbers.{numberOf, signedOf}
 use Rattle.model.specs.State.{maxAt, domainCount, cpuCount}
 use Rattle.model.specs.declared.code.Code.{Code}
 use Rattle.model.specs.declared.state.State.{State}
-use Rattle.script.specs.AnswerRecord.{answerSize, noState}
+use Rattle.script.specs.AnswerRecord.{answerSize, noCpuState}
 use Rattle.script.specs.Bytes.{byteAt, numberAt}
 use Rattle.script.specs.Printed.{space, dash, digitsOf, signedTextOf, statesText, answerLine, answerLines}
 use Rattle.script.specs.Printed.{boardLine, endLine, refusedLine}
@@ -46,7 +46,7 @@ line-length max l top =
     let code = signed-length (signedOf (byteAt l 8)) in
     let states = states-length (suc max) l 9 in
     let two = space ∷ dash ∷ [] in
-    let shown = either (eqb (byteAt l 9) noState) two (statesText (suc max) l 9) {n = 44} (omega arith) (omega arith) in
+    let shown = either (eqb (byteAt l 9) noCpuState) two (statesText (suc max) l 9) {n = 44} (omega arith) (omega arith) in
     simp length-append (omega arith)
 
 lines-length : (max n : ℕ) (l : List ℕ) → max ≤ 3 → length (answerLines max n l) ≤ 67 * n

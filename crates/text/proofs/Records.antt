@@ -8,7 +8,7 @@ use borrow.Author.Tests.{eq-eqb, ne-eqb}
 use lib.ListN.{drop}
 use lib.Seq.{getD-drop, drop-drop}
 use Rattle.model.specs.Numbers.{signedOf}
-use Rattle.script.specs.AnswerRecord.{answerSize, noState}
+use Rattle.script.specs.AnswerRecord.{answerSize, noCpuState}
 use Rattle.script.specs.Bytes.{byteAt, numberAt}
 use Rattle.script.specs.Printed.{space, newline, dash, decimalOf, signedTextOf, statesText, shownText, answerLine, answerLines}
 
@@ -58,14 +58,14 @@ states-drop l (suc n) start place =
 
 module _ (max : ℕ) (l : List ℕ) (start : ℕ) where
   -- no such CPU
-  pub shown-none : {state : ℕ} → state ≡ byteAt l (start + 9) → state ≡ noState → space ∷ dash ∷ [] ≡ shownText max (drop start l)
-  shown-none e h = let n : byteAt (drop start l) 9 ≡ noState = getD-drop start l 9 0 ∙ sym e ∙ h in simp (eq-eqb _ _ n)
+  pub shown-none : {state : ℕ} → state ≡ byteAt l (start + 9) → state ≡ noCpuState → space ∷ dash ∷ [] ≡ shownText max (drop start l)
+  shown-none e h = let n : byteAt (drop start l) 9 ≡ noCpuState = getD-drop start l 9 0 ∙ sym e ∙ h in simp (eq-eqb _ _ n)
 
   -- the states of a CPU
-  pub shown-states : {state : ℕ} → state ≡ byteAt l (start + 9) → (state ≡ noState → ⊥) →
+  pub shown-states : {state : ℕ} → state ≡ byteAt l (start + 9) → (state ≡ noCpuState → ⊥) →
       statesText (suc max) l (start + 9) ≡ shownText max (drop start l)
   shown-states e h =
-      let n : byteAt (drop start l) 9 ≡ noState → ⊥ = λ m. h (e ∙ sym (getD-drop start l 9 0) ∙ m) in
+      let n : byteAt (drop start l) 9 ≡ noCpuState → ⊥ = λ m. h (e ∙ sym (getD-drop start l 9 0) ∙ m) in
       simp (ne-eqb _ _ n) (sym (states-drop l (suc max) start 9))
 
   -- the pieces of a line

@@ -16,7 +16,7 @@ use model::state::State;
 use numbers::read_u32;
 use rows::cells;
 use script::limits::ANSWER;
-use script::limits::NO_STATE;
+use script::limits::NO_CPU_STATE;
 
 // One state.
 fn put_state(text: &mut [u8], at: usize, state: u8) -> usize
@@ -61,7 +61,7 @@ fn put_shown<'a>(
     ensures { λ r. ⌜ r ≤ at + statesMost ⌝ }
 {
     let place = start + 9;
-    if cells::at(answers, place) == NO_STATE {
+    if cells::at(answers, place) == NO_CPU_STATE {
         return put_word(text, at, b" -");
     }
     put_states(text, at, answers, place, max)

@@ -1,11 +1,11 @@
 -- Decimal digits, read back, give the number.
 use Prim.Native.Nat.{ℕ, zero, suc, _+_, _-_, _*_, _/_, _<_}
-use mathlib.Core.Bool.{Bool, true, false, cond}
 use mathlib.Core.List.{List, [], _∷_, _++_}
 use mathlib.Core.Path.{_≡_, refl, _∙_}
 use native.Mathlib.Omega.{arith}
 use borrow.Author.Tests.{ltb-true}
 use lib.Dec.{ltb}
+use Rattle.basics.proofs.Tests.{cond-rule}
 use Rattle.script.specs.Printed.{lastDigit, digitsOf, decimalOf}
 
 -- the number that digits are, after what stands before them
@@ -27,13 +27,11 @@ digits-value : (places n : ℕ) → n < tens places → valueOf 0 (digitsOf plac
 unfolding digitsOf tens valueOf
 digits-value zero n h = omega (arith, h)
 digits-value (suc places) n h =
-    let tenth : n / 10 < tens places = omega (arith, h) in
-    by (ltb n 10) refl (digits-value places (n / 10) tenth)
-  where
-    by : (b : Bool) → ltb n 10 ≡ b → valueOf 0 (digitsOf places (n / 10)) ≡ n / 10 →
-        valueOf 0 (cond b [] (digitsOf places (n / 10)) ++ lastDigit n ∷ []) ≡ n
-    by true e rest = let small = ltb-true n 10 e in omega (arith, small)
-    by false e rest = value-append 0 (digitsOf places (n / 10)) (lastDigit n ∷ []) ∙ omega (arith, rest)
+    cond-rule (λ (before : List ℕ). valueOf 0 (before ++ lastDigit n ∷ []) ≡ n) (ltb n 10)
+    (λ e. let small = ltb-true n 10 e in omega (arith, small))
+    (λ e.
+    let rest = digits-value places (n / 10) (omega (arith, h)) in
+    value-append 0 (digitsOf places (n / 10)) (lastDigit n ∷ []) ∙ omega (arith, rest))
 
 -- a number of at most ten digits is read back
 pub decimal-value : (n : ℕ) → n < 10000000000 → valueOf 0 (decimalOf n) ≡ n
