@@ -1,4 +1,5 @@
 // Rows of bytes, so that no number can break a read or a store.
+use libc::STDIN_FILENO;
 use rows::cells::at;
 use rows::cells::put;
 
@@ -54,4 +55,12 @@ pub(super) fn same(a: &[u8], b: &[u8]) -> bool {
         all = all & (at(a, i) == at(b, i));
     }
     all
+}
+
+// Reads so many bytes to the front of a row, and says whether there were so many, and room for them.
+pub(super) fn read_front(row: &mut [u8], n: usize) -> bool {
+    if row.len() < n {
+        return false;
+    }
+    io::read_full(STDIN_FILENO, &mut row[..n]) == n
 }

@@ -1,5 +1,6 @@
-// Runs stored scripts and compares with stored answers. Standard input is the list that tools/replay-cases makes of cases.txt and
-// the lessons; each case is a line, and the file `stdout` has them all at same.
+// Runs stored scripts and compares with stored answers. Standard input is what tools/replay-cases makes: first the length of a list in
+// four bytes and that list, of cases.txt and the lessons, then the sample, of sample.txt. Each case is a line, and the file `stdout` has
+// them all at same.
 //
 // The list, its numbers with the lowest byte first: `PSCI`, how many cases in two bytes, and then the cases. A case has 27 bytes, and
 // behind them its name, its script and what it expects, answer records (run) or text (print):
@@ -26,10 +27,24 @@ mod expected;
 mod list;
 mod play;
 mod run;
+mod sample;
 mod write;
+
+use crate::bytes::part;
+use crate::bytes::read_front;
+use numbers::read_u32;
+
+// The length of the list.
+fn list_size() -> usize {
+    let mut size = [0u8; 4];
+    read_front(&mut size, 4);
+    read_u32(&size, 0) as usize
+}
 
 fn main() {
     let mut list = io::large_buffer();
-    let n = io::read_full(0, &mut list);
-    list::replay(&list[..n]);
+    let n = list_size();
+    read_front(&mut list, n);
+    list::replay(part(&list, 0, n));
+    sample::replay();
 }

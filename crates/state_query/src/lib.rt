@@ -13,7 +13,7 @@ use model::state::State;
 use soundness::sound;
 
 mod bodies;
-mod nodes;
+pub mod nodes;
 pub mod off;
 pub mod on;
 
