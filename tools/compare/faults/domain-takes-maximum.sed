@@ -1,0 +1,2 @@
+# a domain takes the maximum of its requests
+s/requested_states\.iter()\.min()/requested_states.iter().max()/
