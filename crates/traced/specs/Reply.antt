@@ -1,7 +1,7 @@
 -- docs/REFERENCE.md, 'A request and its reply'.
 use Prim.Native.Nat.{ℕ, zero, suc, _+_, _*_}
 use mathlib.Core.Bool.{cond}
-use mathlib.Core.List.{List, [], _∷_}
+use mathlib.Core.List.{List, [], _∷_, _++_}
 use lib.Dec.{eqb}
 use lib.ListN.{drop, take}
 use Rattle.image.specs.Image.{stateIn}
@@ -103,8 +103,7 @@ queries =
 
 -- an answer in bytes
 unfoldable pub replyOnto : CallAnswer → List ℕ → List ℕ
-replyOnto a out =
-    tablesOnto a queries 661 (tablesOnto a power 212 (tablesOnto a tree 132 (tablesOnto a board 109 (tablesOnto a goingOut 0 out))))
+replyOnto a out = tablesOnto a (goingOut ++ board ++ tree ++ power ++ queries) 0 out
 
 -- the start on a fresh board: nothing goes out
 abbrev pub startedOf : Start → CallAnswer

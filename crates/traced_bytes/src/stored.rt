@@ -84,7 +84,7 @@ pub fn counts_byte(tree: Tree, i: usize) -> u8
     at(&counts, i)
 }
 
-// A byte of a row.
+// A byte of a row, each by the row's name.
 pub fn topology_byte(board: Board, i: usize) -> u8
     ensures { λ r. ⌜ r ≡ byteAt (board .topology) i ⌝ }
 {

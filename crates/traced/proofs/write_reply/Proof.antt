@@ -1,10 +1,10 @@
 use borrow.Author.Needs.{needs}
-use Rattle.traced.specs.Reply.{replyOnto}
+use Rattle.traced.specs.Reply.{replyOnto, tablesOnto}
 use Rattle.traced.proofs.write_reply.Statement.{statement}
 use Rattle.traced.proofs.write_reply.Tie as tie
 
 returns : tie.Need-returns
-unfolding replyOnto
+unfolding replyOnto tablesOnto
 returns c =
     let n5 = c .before .before in
     let n4 = n5 .before .before .before .before in
