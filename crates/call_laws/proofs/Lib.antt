@@ -1,4 +1,5 @@
 pub mod Answer
+pub mod Board
 pub mod Caller
 pub mod Mode
 pub mod Off

@@ -4,6 +4,7 @@ use mathlib.Core.Bool.{Bool, true, false, not, true≢false}
 use mathlib.Core.Path.{_≡_, refl, sym, _∙_}
 use borrow.Author.Tests.{ltb-true, lt-ltb, le-ltb}
 use Rattle.model.specs.declared.answer.CallAnswer.{CallAnswer}
+use Rattle.model.specs.declared.call.Call.the-variants as call
 use Rattle.model.specs.declared.code.Code.the-variants as code
 use Rattle.model.specs.declared.cpu.AffinityInfo.{AffinityInfo}
 use Rattle.model.specs.declared.cpu.AffinityInfo.the-variants as affinity
@@ -12,7 +13,7 @@ use Rattle.model.specs.declared.sorts.CpuNumber.{CpuNumber}
 use Rattle.model.specs.declared.state.State.{State}
 use lib.Dec.{ltb}
 use Rattle.model.specs.Answer.{decided, nothingOut, accepted, refused}
-use Rattle.model.specs.Calls.{cpuOnOf}
+use Rattle.model.specs.Calls.{callOf, cpuOnOf}
 use Rattle.model.specs.Cpu.{onb, pendingb}
 use Rattle.model.specs.Numbers.{acceptedb, answerOf, usableb}
 use Rattle.model.specs.State.{cpuCount, cpuAt, withCpu}
@@ -27,6 +28,9 @@ is-off affinity.Off h k = refl
 is-off affinity.OnPending h k = absurd (true≢false (sym k))
 
 module _ (s : State) (caller target : CpuNumber) (e : EntryPoint) (good : Bool) (answer : ℕ) where
+  abbrev answerTo : CallAnswer
+  answerTo = callOf s (call.On caller target e good answer)
+
   abbrev affinityOf : AffinityInfo
   affinityOf = cpuAt s (target .0) .«affinity_info»
 
@@ -35,37 +39,37 @@ module _ (s : State) (caller target : CpuNumber) (e : EntryPoint) (good : Bool) 
   onDone = accepted nothingOut (withCpu s (target .0) (pendedOf (cpuAt s (target .0)) e))
 
   module _ (r : Runs s (caller .0)) where
-    pub on-unusable : usableb answer ≡ false → cpuOnOf s caller target e good answer ≡ refused s code.Unusable
+    pub on-unusable : usableb answer ≡ false → answerTo ≡ refused s code.Unusable
     unfolding cpuOnOf decided
     on-unusable h = runs-on s (caller .0) _ onDone r ∙ simp h
 
     module _ (h₁ : usableb answer ≡ true) where
-      pub on-no-target : cpuCount s ≤ target .0 → cpuOnOf s caller target e good answer ≡ refused s code.InvalidParameters
+      pub on-no-target : cpuCount s ≤ target .0 → answerTo ≡ refused s code.InvalidParameters
       unfolding cpuOnOf decided
       on-no-target h = runs-on s (caller .0) _ onDone r ∙ simp (h₁, le-ltb _ _ h)
 
       module _ (h₂ : target .0 < cpuCount s) where
-        pub on-bad-address : good ≡ false → cpuOnOf s caller target e good answer ≡ refused s code.InvalidAddress
+        pub on-bad-address : good ≡ false → answerTo ≡ refused s code.InvalidAddress
         unfolding cpuOnOf decided
         on-bad-address h = runs-on s (caller .0) _ onDone r ∙ simp (h₁, lt-ltb _ _ h₂, h)
 
         module _ (h₃ : good ≡ true) where
-          pub on-already : affinityOf ≡ affinity.On → cpuOnOf s caller target e good answer ≡ refused s code.AlreadyOn
+          pub on-already : affinityOf ≡ affinity.On → answerTo ≡ refused s code.AlreadyOn
           unfolding cpuOnOf decided
           on-already h = runs-on s (caller .0) _ onDone r ∙ simp (h₁, lt-ltb _ _ h₂, h₃, h)
 
-          pub on-pending : affinityOf ≡ affinity.OnPending → cpuOnOf s caller target e good answer ≡ refused s code.OnPending
+          pub on-pending : affinityOf ≡ affinity.OnPending → answerTo ≡ refused s code.OnPending
           unfolding cpuOnOf decided
           on-pending h = runs-on s (caller .0) _ onDone r ∙ simp (h₁, lt-ltb _ _ h₂, h₃, h)
 
           module _ (h₄ : affinityOf ≡ affinity.Off) where
             -- a platform error leaves the target Off
             pub on-platform : acceptedb (answerOf answer) ≡ false →
-                cpuOnOf s caller target e good answer ≡ refused s (answerOf answer)
+                answerTo ≡ refused s (answerOf answer)
             unfolding cpuOnOf decided
             on-platform h = runs-on s (caller .0) _ onDone r ∙ simp (h₁, lt-ltb _ _ h₂, h₃, h₄, h)
 
-            pub on-accepted : acceptedb (answerOf answer) ≡ true → cpuOnOf s caller target e good answer ≡ onDone
+            pub on-accepted : acceptedb (answerOf answer) ≡ true → answerTo ≡ onDone
             unfolding cpuOnOf decided
             on-accepted h = runs-on s (caller .0) _ onDone r ∙ simp (h₁, lt-ltb _ _ h₂, h₃, h₄, h)
 
@@ -79,7 +83,7 @@ module _ (s : State) (caller target : CpuNumber) (e : EntryPoint) (good : Bool) 
 
   -- what holds of every refusal, and of what an accepted on does, holds of its answer
   pub on-rule : (P : CallAnswer → Type 0) → OfRefusals P s → (OnAccepted → P onDone) →
-      P (cpuOnOf s caller target e good answer)
+      P answerTo
   unfolding cpuOnOf
   on-rule P refusal acts =
       runs-rule P s onDone refusal (caller .0) _

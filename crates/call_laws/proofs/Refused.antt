@@ -25,12 +25,12 @@ module _ (s : State) where
       on-rule s caller target e good answer Kept (λ _ _ _. refl) (λ _ h. absurd (true≢false h))
   call-refused (call.Off caller answer) = off-rule s caller answer Kept (λ _ _ _. refl) (λ _ h. absurd (true≢false h))
   call-refused (call.Suspend caller pending e asked) =
-      suspend-rule s caller pending e asked Kept (λ _ _ _. refl) (λ _ h. absurd (true≢false h))
-      (λ _ h. absurd (true≢false h))
+      suspend-rule s caller pending e asked Kept (λ _ _ _. refl) (λ _ _ h. absurd (true≢false h))
+      (λ _ _ h. absurd (true≢false h))
   call-refused (call.Finish cpu) = finish-rule s cpu Kept (λ _ _ _. refl) (λ _ h. absurd (true≢false h))
   call-refused (call.Boot cpu) = boot-rule s cpu Kept (λ _ _ _. refl) (λ _ h. absurd (true≢false h))
   call-refused (call.SystemSuspend caller feature pending good e asked) =
-      system-suspend-rule s caller feature pending good e asked Kept (λ _ _ _. refl) (λ _ h. absurd (true≢false h))
-      (λ _ h. absurd (true≢false h))
+      system-suspend-rule s caller feature pending good e asked Kept (λ _ _ _. refl) (λ _ _ h. absurd (true≢false h))
+      (λ _ _ h. absurd (true≢false h))
   call-refused (call.SetMode caller feature wanted) =
       mode-rule s caller feature wanted Kept (λ _ _ _. refl) (λ _ h. absurd (true≢false h))

@@ -4,6 +4,7 @@ use mathlib.Core.Path.{_≡_, refl, sym, _∙_}
 use Rattle.basics.proofs.Tests.{cond-rule}
 use Rattle.model.specs.declared.answer.CallAnswer.{CallAnswer}
 use Rattle.model.specs.declared.answer.Notice.the-variants as notice
+use Rattle.model.specs.declared.call.Call.the-variants as call
 use Rattle.model.specs.declared.code.Code.the-variants as code
 use Rattle.model.specs.declared.cpu.EntryPoint.{EntryPoint}
 use Rattle.model.specs.declared.sorts.CpuNumber.{CpuNumber}
@@ -12,7 +13,7 @@ use Rattle.model.specs.declared.state.SuspendMode.{SuspendMode}
 use Rattle.model.specs.declared.state.SuspendMode.the-variants as mode
 use Rattle.model.specs.declared.states.CompositeState.{CompositeState}
 use Rattle.model.specs.Answer.{decided, notEnteredOut, accepted, refused}
-use Rattle.model.specs.Calls.{cpuSuspendStartOf, platformCoordinatedb, unlessPending, entered}
+use Rattle.model.specs.Calls.{callOf, cpuSuspendStartOf, platformCoordinatedb, unlessPending, entered}
 use Rattle.model.specs.Composite.{isValidSuspendRequestb}
 use Rattle.model.specs.State.{platformAt}
 use Rattle.call_laws.proofs.Answer.{OfRefusals, must-rule, last-rule}
@@ -24,6 +25,9 @@ is-platform-coordinated mode.PlatformCoordinated h = refl
 is-platform-coordinated mode.OsInitiated h = absurd (true≢false (sym h))
 
 module _ (s : State) (caller : CpuNumber) (pending : Bool) (e : EntryPoint) (asked : CompositeState) where
+  abbrev answerTo : CallAnswer
+  answerTo = callOf s (call.Suspend caller pending e asked)
+
   -- an interrupt is pending: 0, and nothing changes
   abbrev pub notEntered : CallAnswer
   notEntered = accepted notEnteredOut s
@@ -36,22 +40,22 @@ module _ (s : State) (caller : CpuNumber) (pending : Bool) (e : EntryPoint) (ask
 
   module _ (r : Runs s (caller .0)) where
     pub suspend-invalid : isValidSuspendRequestb (platformAt s) asked ≡ false →
-        cpuSuspendStartOf s caller pending e asked ≡ refused s code.InvalidParameters
+        answerTo ≡ refused s code.InvalidParameters
     unfolding cpuSuspendStartOf decided
     suspend-invalid h = runs-on s (caller .0) _ may r ∙ simp h
 
     module _ (h₁ : isValidSuspendRequestb (platformAt s) asked ≡ true) where
       pub suspend-os-initiated : s .mode ≡ mode.OsInitiated →
-          cpuSuspendStartOf s caller pending e asked ≡ refused s code.OsInitiated
+          answerTo ≡ refused s code.OsInitiated
       unfolding cpuSuspendStartOf decided
       suspend-os-initiated h = runs-on s (caller .0) _ may r ∙ simp (h₁, h)
 
       module _ (h₂ : s .mode ≡ mode.PlatformCoordinated) where
-        pub suspend-pending : pending ≡ true → cpuSuspendStartOf s caller pending e asked ≡ notEntered
+        pub suspend-pending : pending ≡ true → answerTo ≡ notEntered
         unfolding cpuSuspendStartOf decided
         suspend-pending h = runs-on s (caller .0) _ may r ∙ simp (h₁, h₂, h)
 
-        pub suspend-entered : pending ≡ false → cpuSuspendStartOf s caller pending e asked ≡ suspendDone
+        pub suspend-entered : pending ≡ false → answerTo ≡ suspendDone
         unfolding cpuSuspendStartOf decided
         suspend-entered h = runs-on s (caller .0) _ may r ∙ simp (h₁, h₂, h)
 
@@ -61,8 +65,8 @@ module _ (s : State) (caller : CpuNumber) (pending : Bool) (e : EntryPoint) (ask
     pub valid : isValidSuspendRequestb (platformAt s) asked ≡ true
     pub coordinates : s .mode ≡ mode.PlatformCoordinated
 
-  pub suspend-rule : (P : CallAnswer → Type 0) → OfRefusals P s → (SuspendAccepted → P notEntered) →
-      (SuspendAccepted → P suspendDone) → P (cpuSuspendStartOf s caller pending e asked)
+  pub suspend-rule : (P : CallAnswer → Type 0) → OfRefusals P s → (SuspendAccepted → pending ≡ true → P notEntered) →
+      (SuspendAccepted → pending ≡ false → P suspendDone) → P answerTo
   unfolding cpuSuspendStartOf
   suspend-rule P refusal waits acts =
       runs-rule P s may refusal (caller .0) _
@@ -70,4 +74,4 @@ module _ (s : State) (caller : CpuNumber) (pending : Bool) (e : EntryPoint) (ask
       (λ a. must-rule P s may refusal (platformCoordinatedb (s .mode)) code.OsInitiated _ refl
       (λ b. last-rule P s may refusal code.Accepted
       (λ _. let facts : SuspendAccepted = record { caller-runs = r; valid = a; coordinates = is-platform-coordinated _ b } in
-      cond-rule P pending (λ _. waits facts) (λ _. acts facts)))))
+      cond-rule P pending (waits facts) (acts facts)))))

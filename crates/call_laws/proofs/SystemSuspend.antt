@@ -4,6 +4,7 @@ use mathlib.Core.Path.{_≡_, refl, _∙_}
 use Rattle.basics.proofs.Tests.{cond-rule}
 use Rattle.model.specs.declared.answer.CallAnswer.{CallAnswer}
 use Rattle.model.specs.declared.answer.Notice.the-variants as notice
+use Rattle.model.specs.declared.call.Call.the-variants as call
 use Rattle.model.specs.declared.code.Code.the-variants as code
 use Rattle.model.specs.declared.cpu.EntryPoint.{EntryPoint}
 use Rattle.model.specs.declared.sorts.CpuNumber.{CpuNumber}
@@ -12,7 +13,7 @@ use Rattle.model.specs.declared.state.SuspendMode.the-variants as mode
 use Rattle.model.specs.declared.states.CompositeState.{CompositeState}
 use Rattle.model.specs.declared.states.Platform.{Platform}
 use Rattle.model.specs.Answer.{decided, notEnteredOut, accepted, refused}
-use Rattle.model.specs.Calls.{atMaxb, powersDownb, systemSuspendOf, platformCoordinatedb, unlessPending, entered}
+use Rattle.model.specs.Calls.{callOf, atMaxb, powersDownb, systemSuspendOf, platformCoordinatedb, unlessPending, entered}
 use Rattle.model.specs.Composite.{statesInRangeb}
 use Rattle.model.specs.State.{platformAt}
 use Rattle.model.specs.StateQuery.{othersOffb}
@@ -21,8 +22,8 @@ use Rattle.call_laws.proofs.Caller.{Runs, runs-on, runs-rule}
 use Rattle.call_laws.proofs.Suspend.{is-platform-coordinated}
 
 module _ (s : State) (caller : CpuNumber) (feature pending good : Bool) (e : EntryPoint) (asked : CompositeState) where
-  abbrev answer : CallAnswer
-  answer = systemSuspendOf s caller feature pending good e asked
+  abbrev answerTo : CallAnswer
+  answerTo = callOf s (call.SystemSuspend caller feature pending good e asked)
 
   abbrev pub systemSuspendDone : CallAnswer
   systemSuspendDone = entered s (caller .0) asked e (notice.SpmToldSystemSuspend e)
@@ -34,46 +35,46 @@ module _ (s : State) (caller : CpuNumber) (feature pending good : Bool) (e : Ent
   p = platformAt s
 
   module _ (r : Runs s (caller .0)) where
-    pub system-suspend-absent : feature ≡ false → answer ≡ refused s code.NotSupported
+    pub system-suspend-absent : feature ≡ false → answerTo ≡ refused s code.NotSupported
     unfolding systemSuspendOf decided
     system-suspend-absent h = runs-on s (caller .0) _ may r ∙ simp h
 
     module _ (h₁ : feature ≡ true) where
-      pub system-suspend-not-last : othersOffb s (caller .0) ≡ false → answer ≡ refused s code.Denied
+      pub system-suspend-not-last : othersOffb s (caller .0) ≡ false → answerTo ≡ refused s code.Denied
       unfolding systemSuspendOf decided
       system-suspend-not-last h = runs-on s (caller .0) _ may r ∙ simp (h₁, h)
 
       module _ (h₂ : othersOffb s (caller .0) ≡ true) where
-        pub system-suspend-bad-address : good ≡ false → answer ≡ refused s code.InvalidAddress
+        pub system-suspend-bad-address : good ≡ false → answerTo ≡ refused s code.InvalidAddress
         unfolding systemSuspendOf decided
         system-suspend-bad-address h = runs-on s (caller .0) _ may r ∙ simp (h₁, h₂, h)
 
         module _ (h₃ : good ≡ true) where
-          pub system-suspend-out-of-range : statesInRangeb p asked ≡ false → answer ≡ refused s code.Unusable
+          pub system-suspend-out-of-range : statesInRangeb p asked ≡ false → answerTo ≡ refused s code.Unusable
           unfolding systemSuspendOf decided
           system-suspend-out-of-range h = runs-on s (caller .0) _ may r ∙ simp (h₁, h₂, h₃, h)
 
           module _ (h₄ : statesInRangeb p asked ≡ true) where
-            pub system-suspend-below-max : atMaxb p asked ≡ false → answer ≡ refused s code.Denied
+            pub system-suspend-below-max : atMaxb p asked ≡ false → answerTo ≡ refused s code.Denied
             unfolding systemSuspendOf decided
             system-suspend-below-max h = runs-on s (caller .0) _ may r ∙ simp (h₁, h₂, h₃, h₄, h)
 
             module _ (h₅ : atMaxb p asked ≡ true) where
-              pub system-suspend-invalid : powersDownb p asked ≡ false → answer ≡ refused s code.Unusable
+              pub system-suspend-invalid : powersDownb p asked ≡ false → answerTo ≡ refused s code.Unusable
               unfolding systemSuspendOf decided
               system-suspend-invalid h = runs-on s (caller .0) _ may r ∙ simp (h₁, h₂, h₃, h₄, h₅, h)
 
               module _ (h₆ : powersDownb p asked ≡ true) where
-                pub system-suspend-os-initiated : s .mode ≡ mode.OsInitiated → answer ≡ refused s code.OsInitiated
+                pub system-suspend-os-initiated : s .mode ≡ mode.OsInitiated → answerTo ≡ refused s code.OsInitiated
                 unfolding systemSuspendOf decided
                 system-suspend-os-initiated h = runs-on s (caller .0) _ may r ∙ simp (h₁, h₂, h₃, h₄, h₅, h₆, h)
 
                 module _ (h₇ : s .mode ≡ mode.PlatformCoordinated) where
-                  pub system-suspend-pending : pending ≡ true → answer ≡ accepted notEnteredOut s
+                  pub system-suspend-pending : pending ≡ true → answerTo ≡ accepted notEnteredOut s
                   unfolding systemSuspendOf decided
                   system-suspend-pending h = runs-on s (caller .0) _ may r ∙ simp (h₁, h₂, h₃, h₄, h₅, h₆, h₇, h)
 
-                  pub system-suspend-entered : pending ≡ false → answer ≡ systemSuspendDone
+                  pub system-suspend-entered : pending ≡ false → answerTo ≡ systemSuspendDone
                   unfolding systemSuspendOf decided
                   system-suspend-entered h = runs-on s (caller .0) _ may r ∙ simp (h₁, h₂, h₃, h₄, h₅, h₆, h₇, h)
 
@@ -86,7 +87,8 @@ module _ (s : State) (caller : CpuNumber) (feature pending good : Bool) (e : Ent
     pub coordinates : s .mode ≡ mode.PlatformCoordinated
 
   pub system-suspend-rule : (P : CallAnswer → Type 0) → OfRefusals P s →
-      (SystemSuspendAccepted → P (accepted notEnteredOut s)) → (SystemSuspendAccepted → P systemSuspendDone) → P answer
+      (SystemSuspendAccepted → pending ≡ true → P (accepted notEnteredOut s)) →
+      (SystemSuspendAccepted → pending ≡ false → P systemSuspendDone) → P answerTo
   unfolding systemSuspendOf
   system-suspend-rule P refusal waits acts =
       runs-rule P s may refusal (caller .0) _
@@ -105,4 +107,4 @@ module _ (s : State) (caller : CpuNumber) (feature pending good : Bool) (e : Ent
         powers-down = c;
         coordinates = is-platform-coordinated _ d;
       } in
-      cond-rule P pending (λ _. waits facts) (λ _. acts facts))))))))))
+      cond-rule P pending (waits facts) (acts facts))))))))))

@@ -2,12 +2,13 @@
 use mathlib.Core.Bool.{true, false}
 use mathlib.Core.Path.{_≡_, refl, _∙_}
 use Rattle.model.specs.declared.answer.CallAnswer.{CallAnswer}
+use Rattle.model.specs.declared.call.Call.the-variants as call
 use Rattle.model.specs.declared.code.Code.the-variants as code
 use Rattle.model.specs.declared.cpu.CpuPowerNode.{CpuPowerNode}
 use Rattle.model.specs.declared.sorts.CpuNumber.{CpuNumber}
 use Rattle.model.specs.declared.state.State.{State}
 use Rattle.model.specs.Answer.{decided, accepted, refused}
-use Rattle.model.specs.Calls.{acted, cpuSuspendFinishOf, finishDueb, handleCpuBootOf, bootDueb}
+use Rattle.model.specs.Calls.{callOf, acted, cpuSuspendFinishOf, finishDueb, handleCpuBootOf, bootDueb}
 use Rattle.model.specs.State.{platformAt, cpuAt, statesAlong, upWith}
 use Rattle.model.specs.Steps.{finishStep, finishedOf, finishOut, bootStep, bootedOf, bootOut}
 use Rattle.call_laws.proofs.Answer.{OfRefusals, must-rule, last-rule}
@@ -33,19 +34,19 @@ module _ (s : State) (cpu : CpuNumber) where
   boot-up = refl
 
   module _ (r : Known s (cpu .0)) where
-    pub finish-not-due : finishDueb node ≡ false → cpuSuspendFinishOf s cpu ≡ refused s code.NotDue
+    pub finish-not-due : finishDueb node ≡ false → callOf s (call.Finish cpu) ≡ refused s code.NotDue
     unfolding cpuSuspendFinishOf decided
     finish-not-due h = known-on s (cpu .0) _ finishDone r ∙ simp h
 
-    pub finish-accepted : finishDueb node ≡ true → cpuSuspendFinishOf s cpu ≡ finishDone
+    pub finish-accepted : finishDueb node ≡ true → callOf s (call.Finish cpu) ≡ finishDone
     unfolding cpuSuspendFinishOf decided
     finish-accepted h = known-on s (cpu .0) _ finishDone r ∙ simp h
 
-    pub boot-not-due : bootDueb (platformAt s) node ≡ false → handleCpuBootOf s cpu ≡ refused s code.NotDue
+    pub boot-not-due : bootDueb (platformAt s) node ≡ false → callOf s (call.Boot cpu) ≡ refused s code.NotDue
     unfolding handleCpuBootOf decided
     boot-not-due h = known-on s (cpu .0) _ bootDone r ∙ simp h
 
-    pub boot-accepted : bootDueb (platformAt s) node ≡ true → handleCpuBootOf s cpu ≡ bootDone
+    pub boot-accepted : bootDueb (platformAt s) node ≡ true → callOf s (call.Boot cpu) ≡ bootDone
     unfolding handleCpuBootOf decided
     boot-accepted h = known-on s (cpu .0) _ bootDone r ∙ simp h
 
@@ -54,7 +55,7 @@ module _ (s : State) (cpu : CpuNumber) where
     pub due : finishDueb node ≡ true
 
   pub finish-rule : (P : CallAnswer → Type 0) → OfRefusals P s → (FinishAccepted → P finishDone) →
-      P (cpuSuspendFinishOf s cpu)
+      P (callOf s (call.Finish cpu))
   unfolding cpuSuspendFinishOf
   finish-rule P refusal acts =
       known-rule P s finishDone refusal (cpu .0) _
@@ -65,7 +66,7 @@ module _ (s : State) (cpu : CpuNumber) where
     pub known : Known s (cpu .0)
     pub due : bootDueb (platformAt s) node ≡ true
 
-  pub boot-rule : (P : CallAnswer → Type 0) → OfRefusals P s → (BootAccepted → P bootDone) → P (handleCpuBootOf s cpu)
+  pub boot-rule : (P : CallAnswer → Type 0) → OfRefusals P s → (BootAccepted → P bootDone) → P (callOf s (call.Boot cpu))
   unfolding handleCpuBootOf
   boot-rule P refusal acts =
       known-rule P s bootDone refusal (cpu .0) _

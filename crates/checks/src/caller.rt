@@ -14,13 +14,10 @@ pub fn is_running(node: CpuPowerNode) -> bool
     is_on(a) & (node.local_state == 0)
 }
 
-// Every call first: 102, 103, and then what the further checks give.
-pub fn for_cpu(sound: bool, exists: bool, further: Code) -> Code
-    ensures { λ r. ⌜ r ≡ must sound code.NotSound (must exists code.NoCaller further) ⌝ }
+// After 102 every call first: 103, and then what the further checks give.
+pub fn for_cpu(exists: bool, further: Code) -> Code
+    ensures { λ r. ⌜ r ≡ must exists code.NoCaller further ⌝ }
 {
-    if sound {} else {
-        return Code::NotSound;
-    }
     if exists {} else {
         return Code::NoCaller;
     }
@@ -28,12 +25,9 @@ pub fn for_cpu(sound: bool, exists: bool, further: Code) -> Code
 }
 
 // Then 104, not for boot and finish.
-pub fn for_caller(sound: bool, exists: bool, node: CpuPowerNode, further: Code) -> Code
-    ensures { λ r. ⌜ r ≡ must sound code.NotSound (must exists code.NoCaller (must (runningb node) code.NotRunning further)) ⌝ }
+pub fn for_caller(exists: bool, node: CpuPowerNode, further: Code) -> Code
+    ensures { λ r. ⌜ r ≡ must exists code.NoCaller (must (runningb node) code.NotRunning further) ⌝ }
 {
-    if sound {} else {
-        return Code::NotSound;
-    }
     if exists {} else {
         return Code::NoCaller;
     }

@@ -20,7 +20,7 @@ use Rattle.model.specs.declared.state.SuspendMode.{SuspendMode}
 use Rattle.model.specs.declared.state.SuspendMode.the-variants as mode
 use Rattle.model.specs.declared.states.CompositeState.{CompositeState}
 use Rattle.model.specs.declared.states.Platform.{Platform}
-use Rattle.model.specs.Answer.{nothingOut, notEnteredOut, accepted, decided, must}
+use Rattle.model.specs.Answer.{nothingOut, notEnteredOut, accepted, refused, decided, must}
 use Rattle.model.specs.Composite.{highestLevelStateOf, statesInRangeb, foundAtb}
 use Rattle.model.specs.Composite.{findHighestNonRunLevelOf, isValidSuspendRequestb}
 use Rattle.model.specs.Cpu.{onb, pendingb}
@@ -37,9 +37,9 @@ abbrev pub runningb : CpuPowerNode → Bool
 runningb c = onb (c .«affinity_info») && eqb (c .«local_state») run
 
 module _ (s : State) where
-  -- every call first: 102, 103
+  -- after 102 every call first: 103
   abbrev pub forCpu : ℕ → Code → Code
-  forCpu c k = must (soundb s) code.NotSound (must (ltb c (cpuCount s)) code.NoCaller k)
+  forCpu c k = must (ltb c (cpuCount s)) code.NoCaller k
 
   -- then 104, not for boot and finish
   abbrev pub forCaller : ℕ → Code → Code
@@ -170,12 +170,20 @@ setSuspendModeOf s caller feature wanted =
     decided s (forCaller s (caller .0) (modeCode feature (s .mode) wanted (othersOffb s (caller .0)) (allOnb s)))
     (accepted nothingOut (withMode s wanted))
 
+-- the answer to a call on a state that is known to be sound
+abbrev pub bodyOf : State → Call → CallAnswer
+bodyOf s (call.On caller target e good answer) = cpuOnOf s caller target e good answer
+bodyOf s (call.Off caller answer) = cpuOffOf s caller answer
+bodyOf s (call.Suspend caller pending e asked) = cpuSuspendStartOf s caller pending e asked
+bodyOf s (call.Finish cpu) = cpuSuspendFinishOf s cpu
+bodyOf s (call.Boot cpu) = handleCpuBootOf s cpu
+bodyOf s (call.SystemSuspend caller feature pending good e asked) = systemSuspendOf s caller feature pending good e asked
+bodyOf s (call.SetMode caller feature wanted) = setSuspendModeOf s caller feature wanted
+
+-- every call first, as the test of the state came out: 102
+abbrev pub tested : Bool → State → CallAnswer → CallAnswer
+tested sound s a = cond sound a (refused s code.NotSound)
+
 -- the answer to any call
 abbrev pub callOf : State → Call → CallAnswer
-callOf s (call.On caller target e good answer) = cpuOnOf s caller target e good answer
-callOf s (call.Off caller answer) = cpuOffOf s caller answer
-callOf s (call.Suspend caller pending e asked) = cpuSuspendStartOf s caller pending e asked
-callOf s (call.Finish cpu) = cpuSuspendFinishOf s cpu
-callOf s (call.Boot cpu) = handleCpuBootOf s cpu
-callOf s (call.SystemSuspend caller feature pending good e asked) = systemSuspendOf s caller feature pending good e asked
-callOf s (call.SetMode caller feature wanted) = setSuspendModeOf s caller feature wanted
+callOf s k = tested (soundb s) s (bodyOf s k)

@@ -2,7 +2,7 @@
 ghost use mathlib.Core.Path.{_≡_};
 ghost use mathlib.Core.Bool.{false};
 ghost use mathlib.Core.List.{[]};
-ghost use Rattle.model.specs.Answer.{notEnteredOut, nothingOut, noticesOf, outgoing};
+ghost use Rattle.model.specs.Answer.{notEnteredOut, nothingOut, noticesOf, outgoing, refused};
 ghost use Rattle.model.specs.declared.answer.WakeUpReason.the-variants as wake;
 ghost use Rattle.model.specs.declared.cpu.Entry.the-variants as entry;
 ghost use Rattle.model.specs.Steps.{bootOut, corePowerDown, finishOut, offOut, suspendOut};
@@ -10,12 +10,15 @@ use composite::all_run;
 use composite::is_down;
 use composite::level_found;
 use cpu::is_pending;
+use model::answer::CallAnswer;
 use model::answer::Notice;
 use model::answer::Notices;
 use model::answer::Outgoing;
 use model::answer::WakeUpReason;
+use model::code::Code;
 use model::cpu::CpuPowerNode;
 use model::cpu::Entry;
+use model::state::State;
 use model::states::CompositeState;
 use model::states::Platform;
 use states::composite::cpu_level_state;
@@ -39,6 +42,17 @@ pub fn nothing_out() -> Outgoing
     ensures { λ r. ⌜ r ≡ nothingOut ⌝ }
 {
     with_notices(all_run(), no_notices())
+}
+
+// A refusal: the state as it was handed in, and nothing goes out.
+pub fn refused(state: State, code: Code) -> CallAnswer
+    ensures { λ r. ⌜ r ≡ refused state code ⌝ }
+{
+    CallAnswer {
+        code,
+        out: nothing_out(),
+        state,
+    }
 }
 
 // A suspend is not entered.

@@ -1,61 +1,28 @@
 // The calls of a CPU that goes down: off, suspend and system suspend.
 ghost use mathlib.Core.Path.{_≡_};
-ghost use Rattle.model.specs.Calls.{cpuOffOf, cpuSuspendStartOf, systemSuspendOf};
+ghost use Rattle.model.specs.declared.call.Call.the-variants as call;
+ghost use Rattle.model.specs.Calls.{callOf};
 use crate::Psci;
-use bodies::enter;
-use bodies::turn_off;
-use checks::caller::for_caller;
-use checks::suspend::suspend_code;
-use checks::system_suspend::system_suspend_code;
-use cpu_rows::cpu_in;
-use cpu_rows::with_cpu_record;
 use model::answer::CallAnswer;
-use model::answer::Notice;
 use model::code::Code;
 use model::cpu::EntryPoint;
 use model::sorts::CpuNumber;
 use model::states::CompositeState;
-use outgoing::not_entered_out;
-use outgoing::nothing_out;
+use outgoing::refused;
+use sound_calls::down::cpu_off;
+use sound_calls::down::cpu_suspend_start;
+use sound_calls::down::system_suspend;
 use soundness::sound;
-use state_query::off::others_off;
 
 impl Psci {
     // CPU_OFF: the caller turns itself off. The platform is asked early whether it may.
     pub fn cpu_off(self, caller: CpuNumber, early_answer: u8) -> CallAnswer
-        ensures { λ r. ⌜ r ≡ cpuOffOf (self .state) caller «early_answer» ⌝ }
+        ensures { λ r. ⌜ r ≡ callOf (self .state) (call.Off caller «early_answer») ⌝ }
     {
-        let mut s = self.state;
-        let cpus = s.cpus;
-        let tree = s.tree;
-        let rows = s.domains;
-        let p = s.board.platform;
-        let node = cpu_in(cpus, caller);
-        let code = for_caller(
-            sound(s),
-            caller.0 < tree.cpu_count,
-            node,
-            Code::of_answer(early_answer),
-        );
-        if code.is_accepted() {
-            let done = turn_off(tree, rows, p, caller, node);
-            let node = done.node;
-            let domains = done.domains;
-            let out = done.out;
-            let next = with_cpu_record(cpus, caller, node);
-            s.cpus = next;
-            s.domains = domains;
-            return CallAnswer {
-                code: Code::Accepted,
-                out,
-                state: s,
-            };
+        if sound(self.state) {
+            return cpu_off(self.state, caller, early_answer);
         }
-        CallAnswer {
-            code,
-            out: nothing_out(),
-            state: s,
-        }
+        refused(self.state, Code::NotSound)
     }
 
     // CPU_SUSPEND up to its wait.
@@ -66,44 +33,12 @@ impl Psci {
         entry: EntryPoint,
         asked: CompositeState,
     ) -> CallAnswer
-        ensures { λ r. ⌜ r ≡ cpuSuspendStartOf (self .state) caller pending entry asked ⌝ }
+        ensures { λ r. ⌜ r ≡ callOf (self .state) (call.Suspend caller pending entry asked) ⌝ }
     {
-        let mut s = self.state;
-        let cpus = s.cpus;
-        let tree = s.tree;
-        let rows = s.domains;
-        let p = s.board.platform;
-        let node = cpu_in(cpus, caller);
-        let mode = s.mode;
-        let own = suspend_code(p, mode, asked);
-        let code = for_caller(sound(s), caller.0 < tree.cpu_count, node, own);
-        if code.is_accepted() {} else {
-            return CallAnswer {
-                code,
-                out: nothing_out(),
-                state: s,
-            };
+        if sound(self.state) {
+            return cpu_suspend_start(self.state, caller, pending, entry, asked);
         }
-        if pending {
-            return CallAnswer {
-                code: Code::Accepted,
-                out: not_entered_out(),
-                state: s,
-            };
-        }
-        let told = Notice::SpmToldSuspend(entry);
-        let done = enter(tree, rows, p, caller, node, asked, entry, told);
-        let node = done.node;
-        let domains = done.domains;
-        let out = done.out;
-        let next = with_cpu_record(cpus, caller, node);
-        s.cpus = next;
-        s.domains = domains;
-        CallAnswer {
-            code: Code::Accepted,
-            out,
-            state: s,
-        }
+        refused(self.state, Code::NotSound)
     }
 
     // SYSTEM_SUSPEND up to its wait: the last CPU that is on suspends to the states that the platform has for this.
@@ -116,44 +51,19 @@ impl Psci {
         entry: EntryPoint,
         asked: CompositeState,
     ) -> CallAnswer
-        ensures { λ r. ⌜ r ≡ systemSuspendOf (self .state) caller feature pending «address_good» entry asked ⌝ }
+        ensures { λ r. ⌜ r ≡ callOf (self .state) (call.SystemSuspend caller feature pending «address_good» entry asked) ⌝ }
     {
-        let mut s = self.state;
-        let cpus = s.cpus;
-        let tree = s.tree;
-        let rows = s.domains;
-        let p = s.board.platform;
-        let node = cpu_in(cpus, caller);
-        let last = others_off(cpus, tree.cpu_count, caller.0);
-        let mode = s.mode;
-        let own = system_suspend_code(p, mode, feature, last, address_good, asked);
-        let code = for_caller(sound(s), caller.0 < tree.cpu_count, node, own);
-        if code.is_accepted() {} else {
-            return CallAnswer {
-                code,
-                out: nothing_out(),
-                state: s,
-            };
+        if sound(self.state) {
+            return system_suspend(
+                self.state,
+                caller,
+                feature,
+                pending,
+                address_good,
+                entry,
+                asked,
+            );
         }
-        if pending {
-            return CallAnswer {
-                code: Code::Accepted,
-                out: not_entered_out(),
-                state: s,
-            };
-        }
-        let told = Notice::SpmToldSystemSuspend(entry);
-        let done = enter(tree, rows, p, caller, node, asked, entry, told);
-        let node = done.node;
-        let domains = done.domains;
-        let out = done.out;
-        let next = with_cpu_record(cpus, caller, node);
-        s.cpus = next;
-        s.domains = domains;
-        CallAnswer {
-            code: Code::Accepted,
-            out,
-            state: s,
-        }
+        refused(self.state, Code::NotSound)
     }
 }

@@ -1,23 +1,17 @@
 // The calls that turn nothing off: on and set mode.
 ghost use mathlib.Core.Path.{_≡_};
-ghost use Rattle.model.specs.Calls.{cpuOnOf, setSuspendModeOf};
+ghost use Rattle.model.specs.declared.call.Call.the-variants as call;
+ghost use Rattle.model.specs.Calls.{callOf};
 use crate::Psci;
-use checks::caller::for_caller;
-use checks::mode::mode_code;
-use checks::on::on_code;
-use cpu_rows::cpu_in;
-use cpu_rows::with_cpu_record;
-use cpu_steps::pended;
 use model::answer::CallAnswer;
 use model::code::Code;
 use model::cpu::EntryPoint;
 use model::sorts::CpuNumber;
-use model::state::State;
 use model::state::SuspendMode;
-use outgoing::nothing_out;
+use outgoing::refused;
+use sound_calls::on::cpu_on;
+use sound_calls::on::set_suspend_mode;
 use soundness::sound;
-use state_query::off::others_off;
-use state_query::on::all_on;
 
 impl Psci {
     // CPU_ON: turns a CPU on. The platform says whether the address is good, and what comes of its own part.
@@ -29,54 +23,22 @@ impl Psci {
         address_good: bool,
         answer: u8,
     ) -> CallAnswer
-        ensures { λ r. ⌜ r ≡ cpuOnOf (self .state) caller target entry «address_good» answer ⌝ }
+        ensures { λ r. ⌜ r ≡ callOf (self .state) (call.On caller target entry «address_good» answer) ⌝ }
     {
-        let mut s = self.state;
-        let cpus = s.cpus;
-        let count = s.tree.cpu_count;
-        let node = cpu_in(cpus, target);
-        let affinity = node.affinity_info;
-        let own = on_code(answer, target.0 < count, address_good, affinity);
-        let code = for_caller(sound(s), caller.0 < count, cpu_in(cpus, caller), own);
-        let granted = code.is_accepted();
-        if granted {
-            let next = with_cpu_record(cpus, target, pended(node, entry));
-            s.cpus = next;
-            return CallAnswer {
-                code: Code::Accepted,
-                out: nothing_out(),
-                state: s,
-            };
+        let known = sound(self.state);
+        if known {
+            return cpu_on(self.state, caller, target, entry, address_good, answer);
         }
-        CallAnswer {
-            code,
-            out: nothing_out(),
-            state: s,
-        }
+        refused(self.state, Code::NotSound)
     }
 
     // PSCI_SET_SUSPEND_MODE: sets who coordinates the power states.
     pub fn set_suspend_mode(self, caller: CpuNumber, feature: bool, mode: SuspendMode) -> CallAnswer
-        ensures { λ r. ⌜ r ≡ setSuspendModeOf (self .state) caller feature mode ⌝ }
+        ensures { λ r. ⌜ r ≡ callOf (self .state) (call.SetMode caller feature mode) ⌝ }
     {
-        let s = self.state;
-        let cpus = s.cpus;
-        let count = s.tree.cpu_count;
-        let last = others_off(cpus, count, caller.0);
-        let current = s.mode;
-        let own = mode_code(feature, current, mode, last, all_on(cpus, count));
-        let code = for_caller(sound(s), caller.0 < count, cpu_in(cpus, caller), own);
-        if code.is_accepted() {
-            return CallAnswer {
-                code: Code::Accepted,
-                out: nothing_out(),
-                state: State { mode, ..s },
-            };
+        if sound(self.state) {
+            return set_suspend_mode(self.state, caller, feature, mode);
         }
-        CallAnswer {
-            code,
-            out: nothing_out(),
-            state: s,
-        }
+        refused(self.state, Code::NotSound)
     }
 }

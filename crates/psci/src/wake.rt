@@ -1,82 +1,34 @@
 // The calls of a CPU that wakes: finish and boot.
 ghost use mathlib.Core.Path.{_≡_};
-ghost use Rattle.model.specs.Calls.{cpuSuspendFinishOf, handleCpuBootOf};
+ghost use Rattle.model.specs.declared.call.Call.the-variants as call;
+ghost use Rattle.model.specs.Calls.{callOf};
 use crate::Psci;
-use bodies::boot;
-use bodies::finish;
-use checks::caller::for_cpu;
-use checks::wake::boot_code;
-use checks::wake::finish_code;
-use cpu_rows::cpu_in;
-use cpu_rows::with_cpu_record;
 use model::answer::CallAnswer;
 use model::code::Code;
 use model::sorts::CpuNumber;
-use outgoing::nothing_out;
+use outgoing::refused;
+use sound_calls::wake::cpu_suspend_finish;
+use sound_calls::wake::handle_cpu_boot;
 use soundness::sound;
 
 impl Psci {
     // The rest of a suspend after its wait.
     pub fn cpu_suspend_finish(self, cpu: CpuNumber) -> CallAnswer
-        ensures { λ r. ⌜ r ≡ cpuSuspendFinishOf (self .state) cpu ⌝ }
+        ensures { λ r. ⌜ r ≡ callOf (self .state) (call.Finish cpu) ⌝ }
     {
-        let mut s = self.state;
-        let cpus = s.cpus;
-        let tree = s.tree;
-        let rows = s.domains;
-        let p = s.board.platform;
-        let node = cpu_in(cpus, cpu);
-        let code = for_cpu(sound(s), cpu.0 < tree.cpu_count, finish_code(node));
-        if code.is_accepted() {
-            let done = finish(tree, rows, p, cpu, node);
-            let node = done.node;
-            let domains = done.domains;
-            let out = done.out;
-            let next = with_cpu_record(cpus, cpu, node);
-            s.cpus = next;
-            s.domains = domains;
-            return CallAnswer {
-                code: Code::Accepted,
-                out,
-                state: s,
-            };
+        if sound(self.state) {
+            return cpu_suspend_finish(self.state, cpu);
         }
-        CallAnswer {
-            code,
-            out: nothing_out(),
-            state: s,
-        }
+        refused(self.state, Code::NotSound)
     }
 
     // A CPU that is powered up: after CPU_ON, or from a suspend that lost its state.
     pub fn handle_cpu_boot(self, cpu: CpuNumber) -> CallAnswer
-        ensures { λ r. ⌜ r ≡ handleCpuBootOf (self .state) cpu ⌝ }
+        ensures { λ r. ⌜ r ≡ callOf (self .state) (call.Boot cpu) ⌝ }
     {
-        let mut s = self.state;
-        let cpus = s.cpus;
-        let tree = s.tree;
-        let rows = s.domains;
-        let p = s.board.platform;
-        let node = cpu_in(cpus, cpu);
-        let code = for_cpu(sound(s), cpu.0 < tree.cpu_count, boot_code(p, node));
-        if code.is_accepted() {
-            let done = boot(tree, rows, p, cpu, node);
-            let node = done.node;
-            let domains = done.domains;
-            let out = done.out;
-            let next = with_cpu_record(cpus, cpu, node);
-            s.cpus = next;
-            s.domains = domains;
-            return CallAnswer {
-                code: Code::Accepted,
-                out,
-                state: s,
-            };
+        if sound(self.state) {
+            return handle_cpu_boot(self.state, cpu);
         }
-        CallAnswer {
-            code,
-            out: nothing_out(),
-            state: s,
-        }
+        refused(self.state, Code::NotSound)
     }
 }

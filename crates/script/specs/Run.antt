@@ -1,12 +1,13 @@
 -- docs/REFERENCE.md, 'A run'.
 use Prim.Native.Nat.{ℕ, zero, suc, _+_, _-_, _*_}
-use mathlib.Core.Bool.{cond}
+use mathlib.Core.Bool.{Bool, cond}
 use mathlib.Core.List.{List, [], _++_}
 use lib.Dec.{ltb}
 use lib.ListN.{length, take, drop}
-use Rattle.model.specs.Calls.{callOf}
+use Rattle.model.specs.Calls.{bodyOf, tested, callOf}
 use Rattle.model.specs.Fresh.{noState, freshOf}
 use Rattle.model.specs.State.{maxAt}
+use Rattle.model.specs.declared.answer.CallAnswer.{CallAnswer}
 use Rattle.model.specs.declared.call.Call.{Call}
 use Rattle.model.specs.declared.code.Code.{Code}
 use Rattle.model.specs.declared.code.Code.the-variants as code
@@ -62,10 +63,16 @@ eventOr read.End stop f = stop (readCodeOf read.End)
 eventOr (read.Event c next) stop f = f c next
 eventOr read.Malformed stop f = stop (readCodeOf read.Malformed)
 
--- what an event gives: its code, the states along the path of the CPU that it names, and the next state
+-- what an event gives when its call has this answer: its code, the states along the path of the CPU that it names, and the next state
+abbrev pub eventGives : Call → CallAnswer → EventAnswer
+eventGives c a = record { code = a .code; shown = shownOf (a .state) (namedOf c); state = a .state }
+
 unfoldable pub eventAnswerOf : State → Call → EventAnswer
-eventAnswerOf s c =
-    record { code = callOf s c .code; shown = shownOf (callOf s c .state) (namedOf c); state = callOf s c .state }
+eventAnswerOf s c = eventGives c (callOf s c)
+
+-- the same where the test of the state came out as is said
+unfoldable pub eventAnswerAs : Bool → State → Call → EventAnswer
+eventAnswerAs sound s c = eventGives c (tested sound s (bodyOf s c))
 
 -- the answer record of an event
 abbrev pub recordOfEvent : ℕ → EventAnswer → List ℕ

@@ -150,12 +150,12 @@ pub record UnusedCpu (s : State) (c : ℕ) : Type 0 where
   pub requests : (level : ℕ) → 1 ≤ level → level ≤ highestMax → requestAt s level c ≡ 0
   pub suspends : (level : ℕ) → 1 ≤ level → level ≤ highestMax → suspendAt s level c ≡ 0
 
-on-is : (a : AffinityInfo) → onb a ≡ true → a ≡ affinity.On
+pub on-is : (a : AffinityInfo) → onb a ≡ true → a ≡ affinity.On
 on-is affinity.On h = refl
 on-is affinity.Off h = absurd (true≢false (sym h))
 on-is affinity.OnPending h = absurd (true≢false (sym h))
 
-none-is : (e : Entry) → heldb e ≡ false → e ≡ entry.Nothing
+pub none-is : (e : Entry) → heldb e ≡ false → e ≡ entry.Nothing
 none-is entry.Nothing h = refl
 none-is (entry.Held x) h = absurd (true≢false h)
 

@@ -10,12 +10,13 @@ use Rattle.model.specs.Limits.{cpuLimit, highestMax, requestSlots}
 use Rattle.model.specs.Table.{filledOf, placeOf, atLevel, levelsFilledOf}
 use Rattle.model.proofs.Tables.{length-filled, filled-at, filled-before, filled-past}
 
-module _ (v n : ℕ) (few : n ≤ cpuLimit) where
-  length-levels : (max : ℕ) → length (levelsFilledOf v n max) ≡ requestSlots
-  unfolding levelsFilledOf
-  length-levels zero = length-replicate {A = ℕ} requestSlots 0
-  length-levels (suc max) = length-filled (λ _. v) (max * cpuLimit) n (levelsFilledOf v n max) ∙ length-levels max
+-- its length
+pub length-levels : (v n max : ℕ) → length (levelsFilledOf v n max) ≡ requestSlots
+unfolding levelsFilledOf
+length-levels v n zero = length-replicate {A = ℕ} requestSlots 0
+length-levels v n (suc max) = length-filled (λ _. v) (max * cpuLimit) n (levelsFilledOf v n max) ∙ length-levels v n max
 
+module _ (v n : ℕ) (few : n ≤ cpuLimit) where
   -- the places that are used hold the value
   pub levels-at : (max l c : ℕ) → max ≤ highestMax → 1 ≤ l → l ≤ max → c < n → atLevel (levelsFilledOf v n max) l c ≡ v
   unfolding levelsFilledOf
@@ -24,7 +25,7 @@ module _ (v n : ℕ) (few : n ≤ cpuLimit) where
       by (eqb l (suc max))
       (λ e. let z : placeOf l c ≡ max * cpuLimit + c = omega (arith, eqb-true l (suc max) e) in
       ap (λ (p : ℕ). getD (filledOf (λ _. v) (max * cpuLimit) n (levelsFilledOf v n max)) p 0) z
-      ∙ filled-at (λ _. v) (max * cpuLimit) n c (levelsFilledOf v n max) 0 i (omega (arith, length-levels max, few)))
+      ∙ filled-at (λ _. v) (max * cpuLimit) n c (levelsFilledOf v n max) 0 i (omega (arith, length-levels v n max, few)))
       (λ e. let d = eqb-false l (suc max) e in
       filled-before (λ _. v) (max * cpuLimit) n (placeOf l c) (levelsFilledOf v n max) 0 (omega (arith, d, few))
       ∙ levels-at max l c (omega arith) o (omega (arith, d)) i)

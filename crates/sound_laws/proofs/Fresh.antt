@@ -31,12 +31,12 @@ use Rattle.topology_laws.proofs.Accepted.{Accepted, accepted}
 use Rattle.model.proofs.Tables.{length-table, table-at, table-past}
 use Rattle.sound_laws.proofs.Filled.{levels-at, levels-past}
 use Rattle.sound_laws.proofs.Levels.{asked-at}
-use Rattle.sound_laws.proofs.Reflect.{platform-max, platform-states}
+use Rattle.sound_laws.proofs.Reflect.{platform-has}
 use Rattle.sound_laws.proofs.Stored.{stored-level-low, stored-level-high, span-cpus}
 use Rattle.sound_laws.proofs.Up.{ComesUp, up-sound}
 
 -- a topology is what is stored of it
-topology-stored : (t : List ℕ) (d : ℕ) → length t ≡ suc d → d ≤ domainLimit →
+pub topology-stored : (t : List ℕ) (d : ℕ) → length t ≡ suc d → d ≤ domainLimit →
     take (suc d) (tableOf entryLimit 0 (λ i. getD t i 0) (length t)) ≡ t
 topology-stored t d long few =
     let row = tableOf entryLimit 0 (λ (i : ℕ). getD t i 0) (length t) in
@@ -64,7 +64,7 @@ module _ (p : Platform) (primary : CpuNumber) (t : List ℕ) (yes : boardb p pri
   a = accepted t max (primary .0) (parts .1)
 
   low : max ≤ highestMax
-  low = platform-max p (parts .0)
+  low = platform-has p (parts .0) .1
 
   stored : topologyAt s ≡ t
   unfolding treeOf
@@ -92,7 +92,7 @@ module _ (p : Platform) (primary : CpuNumber) (t : List ℕ) (yes : boardb p pri
 
   -- OFF is a state
   off-in-range : inRangeb p off ≡ true
-  off-in-range = lt-ltb off (p .states) (omega (arith, platform-states p (parts .0)))
+  off-in-range = lt-ltb off (p .states) (omega (arith, platform-has p (parts .0) .2))
 
   off-request : (l c : ℕ) → 1 ≤ l → l ≤ max → c < cpusOf t max → requestAt s l c ≡ off
   off-request l c o h b = levels-at off (cpusOf t max) (a .fit) max l c low o h b

@@ -1,19 +1,22 @@
 -- What the tests of a CPU's levels stand for.
 use Prim.Native.Nat.{ℕ, zero, suc, _<_, _≤_}
 use mathlib.Core.Bool.{Bool, true, false, cond, true≢false}
+use mathlib.Core.List.{List}
 use mathlib.Core.Path.{_≡_, refl, sym, _∙_}
 use native.Mathlib.Omega.{arith}
 use borrow.Author.Tests.{eq-eqb, ne-eqb, eqb-true, le-leb, lt-leb, leb-true, leb-false, ltb-false, le-ltb}
 use lib.Dec.{eqb, leb}
 use Rattle.basics.proofs.Is.{Is, is-as, is-true, is-eq, is-not, is-both, is-if-le}
+use Rattle.model.specs.declared.cpu.CpuPowerNode.{CpuPowerNode}
 use Rattle.model.specs.declared.state.State.{State}
 use Rattle.model.specs.declared.states.CompositeState.{CompositeState}
 use Rattle.model.specs.declared.states.Platform.{Platform}
 use Rattle.model.specs.Composite.{stateAt, kindAt, statesInRangeb, noDeeperb, isValidSuspendRequestb}
 use Rattle.model.specs.Limits.{highestMax, levels}
 use Rattle.model.specs.SoundTest.{levelsAreb}
-use Rattle.model.specs.State.{requestAt, askedOf}
+use Rattle.model.specs.State.{askedIn, cpuAt, requestAt, askedOf}
 use Rattle.model.specs.States.{run, inRangeb, depthOf, deeperb}
+use Rattle.model.specs.Table.{atLevel}
 use Rattle.model.proofs.Below.{is-every}
 
 -- a comparison with one number or another
@@ -28,12 +31,16 @@ is-eq-cond false x v w = record {
 }
 
 -- what a CPU asks for at level l is its request
+pub asked-in-at : (requests : List ℕ) (r : CpuPowerNode) (c l : ℕ) → 1 ≤ l → l ≤ highestMax →
+    stateAt (askedIn requests r c) l ≡ atLevel requests l c
+asked-in-at requests r c zero a b = absurd (omega arith)
+asked-in-at requests r c (suc zero) a b = refl
+asked-in-at requests r c (suc (suc zero)) a b = refl
+asked-in-at requests r c (suc (suc (suc zero))) a b = refl
+asked-in-at requests r c (suc (suc (suc (suc l)))) a b = absurd (omega arith)
+
 pub asked-at : (s : State) (c l : ℕ) → 1 ≤ l → l ≤ highestMax → stateAt (askedOf s c) l ≡ requestAt s l c
-asked-at s c zero a b = absurd (omega arith)
-asked-at s c (suc zero) a b = refl
-asked-at s c (suc (suc zero)) a b = refl
-asked-at s c (suc (suc (suc zero))) a b = refl
-asked-at s c (suc (suc (suc (suc l)))) a b = absurd (omega arith)
+asked-at s c = asked-in-at (s .domains .requests) (cpuAt s c) c
 
 module _ (p : Platform) (asked : CompositeState) where
   abbrev max : ℕ

@@ -1,8 +1,12 @@
+pub mod Coordinated
 pub mod CpuSlot
+pub mod Deepens
 pub mod Filled
 pub mod Fresh
 pub mod Levels
+pub mod Moved
 pub mod Reflect
 pub mod Running
+pub mod Settled
 pub mod Stored
 pub mod Up

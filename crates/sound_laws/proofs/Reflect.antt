@@ -66,19 +66,14 @@ is-entries-end row last =
     is-as (is-every entryLimit (λ i. is-if-lt last i (is-eq (getD row i 0) 0) (is-true true)))
     (λ q i h b. q i b .0 h) (λ r i b. (λ h. r i h b, λ _. refl))
 
--- MAX of an acceptable platform
-pub platform-max : (p : Platform) → platformb p ≡ true → p .max .0 ≤ highestMax
-platform-max p h =
+-- an acceptable platform has from one level to the highest MAX, and a state that is not OFF
+pub platform-has : (p : Platform) → platformb p ≡ true → (1 ≤ p .max .0) × (p .max .0 ≤ highestMax) × (2 ≤ p .states)
+platform-has p h =
     let q = and-eq-true-iff (betweenb 1 (p .max .0) highestMax && betweenb 2 (p .states) stateLimit) (betweenb 1 (p .down) (offOf p)) .0 h in
     let r = and-eq-true-iff (betweenb 1 (p .max .0) highestMax) (betweenb 2 (p .states) stateLimit) .0 (q .0) in
-    leb-true (p .max .0) highestMax (and-eq-true-iff (leb 1 (p .max .0)) (leb (p .max .0) highestMax) .0 (r .0) .1)
-
--- it has a state that is not OFF
-pub platform-states : (p : Platform) → platformb p ≡ true → 2 ≤ p .states
-platform-states p h =
-    let q = and-eq-true-iff (betweenb 1 (p .max .0) highestMax && betweenb 2 (p .states) stateLimit) (betweenb 1 (p .down) (offOf p)) .0 h in
-    let r = and-eq-true-iff (betweenb 1 (p .max .0) highestMax) (betweenb 2 (p .states) stateLimit) .0 (q .0) in
-    leb-true 2 (p .states) (and-eq-true-iff (leb 2 (p .states)) (leb (p .states) stateLimit) .0 (r .1) .0)
+    let max = and-eq-true-iff (leb 1 (p .max .0)) (leb (p .max .0) highestMax) .0 (r .0) in
+    let states = and-eq-true-iff (leb 2 (p .states)) (leb (p .states) stateLimit) .0 (r .1) in
+    (leb-true 1 (p .max .0) (max .0), leb-true (p .max .0) highestMax (max .1), leb-true 2 (p .states) (states .0))
 
 module _ (s : State) where
   abbrev t : List ℕ
@@ -131,13 +126,18 @@ module _ (s : State) where
         λ k h. ap (λ (x : Span). x .end) (r .domains k h .children),
       )))
 
-  -- MAX of an acceptable board
-  pub board-max : boardb (platformAt s) (s .board .primary) t ≡ true → maxAt s ≤ highestMax
-  board-max h = platform-max (platformAt s) (and-eq-true-iff (platformb (platformAt s)) _ .0 h .0)
+  -- so has the platform of an acceptable board
+  board-has : boardb (platformAt s) (s .board .primary) t ≡ true → (1 ≤ maxAt s) × (maxAt s ≤ highestMax) × (2 ≤ platformAt s .states)
+  board-has h = platform-has (platformAt s) (and-eq-true-iff (platformb (platformAt s)) _ .0 h .0)
 
-  -- its states
+  pub board-min : boardb (platformAt s) (s .board .primary) t ≡ true → 1 ≤ maxAt s
+  board-min h = board-has h .0
+
+  pub board-max : boardb (platformAt s) (s .board .primary) t ≡ true → maxAt s ≤ highestMax
+  board-max h = board-has h .1
+
   pub board-states : boardb (platformAt s) (s .board .primary) t ≡ true → 2 ≤ platformAt s .states
-  board-states h = platform-states (platformAt s) (and-eq-true-iff (platformb (platformAt s)) _ .0 h .0)
+  board-states h = board-has h .2
 
   -- its topology
   pub board-accepted : boardb (platformAt s) (s .board .primary) t ≡ true → Accepted t (maxAt s) (s .board .primary .0)

@@ -4,7 +4,7 @@ use mathlib.Core.List.{List}
 use mathlib.Core.Logic.{_⊎_, inl, inr, ⊎-elim}
 use mathlib.Core.Path.{_≡_, refl, ap, _∙_}
 use native.Mathlib.Omega.{arith}
-use borrow.Author.Tests.{lt-ltb, eqb-true, eqb-false}
+use borrow.Author.Tests.{lt-ltb, ltb-true, eqb-true, eqb-false}
 use lib.Dec.{eqb, ltb}
 use lib.ListN.{getD, set}
 use lib.Seq.{getD-set-other}
@@ -25,13 +25,6 @@ pub set-level-other : (row : List ℕ) (l c k i v : ℕ) → 1 ≤ l → 1 ≤ k
     atLevel (setAtLevel row l c v) k i ≡ atLevel row k i
 set-level-other row l c k i v a b h g apart =
     simp (lt-ltb c cpuLimit h) (getD-set-other row (placeOf l c) (placeOf k i) v 0 (λ e. apart (omega (arith, e)) (omega (arith, e))))
-
--- a store in a row is read there, and nowhere else
-store-either : (row : List ℕ) (i k : ℕ) → (getD (set row i 0) k 0 ≡ 0) ⊎ (getD (set row i 0) k 0 ≡ getD row k 0)
-store-either row i k =
-    by (eqb k i)
-    (λ e. let z = eqb-true k i e in inl (ap (λ (j : ℕ). getD (set row i 0) j 0) z ∙ getD-set-default row i 0))
-    (λ e. inr (getD-set-other row i k 0 0 (eqb-false k i e)))
 
 module _ (parents : List ℕ) (max first cpu : ℕ) (x : Domains) where
   abbrev after : ℕ → Domains
@@ -58,23 +51,26 @@ module _ (parents : List ℕ) (max first cpu : ℕ) (x : Domains) where
       getD-set-other (after n .states) (aboveOf parents first n) k run 0 (off n (omega arith))
       ∙ state-kept n k (λ j h. off j (omega arith))
 
-  -- a domain runs or stays
-  pub state-either : (n k : ℕ) → (getD (after n .states) k 0 ≡ run) ⊎ (getD (after n .states) k 0 ≡ getD (x .states) k 0)
-  unfolding levelsRunningOf
-  state-either zero k = inr refl
-  state-either (suc n) k =
-      ⊎-elim inl (λ e. ⊎-elim (λ f. inl (e ∙ f)) (λ f. inr (e ∙ f)) (state-either n k))
-      (store-either (after n .states) (aboveOf parents first n) k)
+  -- a copy stays, or is RUN: that of a domain of the path below the top
+  abbrev pub Copies : List ℕ → ℕ → Type 0
+  Copies now k = (getD now k 0 ≡ getD (x .copies) k 0)
+      ⊎ ((j : ℕ) × (suc j < max) × (k ≡ aboveOf parents first j) × (getD now k 0 ≡ run))
 
-  -- a copy is RUN or stays
-  pub copy-either : (n k : ℕ) → (getD (after n .copies) k 0 ≡ run) ⊎ (getD (after n .copies) k 0 ≡ getD (x .copies) k 0)
+  copies-still : (row now : List ℕ) (k : ℕ) → getD now k 0 ≡ getD row k 0 → Copies row k → Copies now k
+  copies-still row now k e = ⊎-elim (λ f. inl (e ∙ f)) (λ f. inr (f .0, f .1, f .2, e ∙ f .3))
+
+  pub copy-either : (n k : ℕ) → Copies (after n .copies) k
   unfolding levelsRunningOf
-  copy-either zero k = inr refl
+  copy-either zero k = inl refl
   copy-either (suc n) k =
-      ⊎-elim inl (λ e. ⊎-elim (λ f. inl (e ∙ f)) (λ f. inr (e ∙ f)) (copy-either n k))
-      (cond-rule (λ row. (getD row k 0 ≡ 0) ⊎ (getD row k 0 ≡ getD (after n .copies) k 0)) (ltb (suc n) max)
-      {x = set (after n .copies) (aboveOf parents first n) run} {y = after n .copies}
-      (λ _. store-either (after n .copies) (aboveOf parents first n) k) (λ _. inr refl))
+      let row = after n .copies in
+      let d = aboveOf parents first n in
+      cond-rule (λ (now : List ℕ). Copies now k) (ltb (suc n) max) {x = set row d run} {y = row}
+      (λ below. by (eqb k d)
+      (λ e. let z = eqb-true k d e in
+      inr (n, ltb-true (suc n) max below, z, ap (λ (j : ℕ). getD (set row d run) j 0) z ∙ getD-set-default row d 0))
+      (λ e. copies-still row (set row d run) k (getD-set-other row d k run 0 (eqb-false k d e)) (copy-either n k)))
+      (λ _. copy-either n k)
 
   module _ (is-cpu : cpu < cpuLimit) where
     -- the CPU asks for RUN at these levels

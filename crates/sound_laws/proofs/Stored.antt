@@ -139,3 +139,29 @@ module _ (s : State) (fits : Fits s) where
       let z : suc (levelOf t max k - 1) ≡ levelOf t max k = omega arith in
       let over = span-over a k (domain k is) c (omega (arith, fits .cpu-count)) (ap (λ (x : Span). inSpanb x c) (sym (stored-span k is)) ∙ e) in
       (l - 1, omega arith, sym (stored-path c (l - 1) h (omega arith) ∙ ap (λ (n : ℕ). overOf t max n c) z ∙ over))
+
+  -- the domain of a path that is below the top has a parent
+  pub path-not-top : (c n : ℕ) → c < cpuCount s → suc n < max →
+      parentAt (s .tree) (aboveOf (s .tree .parents) (cpuAt s c .parent .0) n) ≡ noParent → ⊥
+  unfolding levelAt
+  path-not-top c n h b e =
+      omega (arith, on-path c n h (omega arith) .level, top-level max (aboveOf (s .tree .parents) (cpuAt s c .parent .0) n) (omega arith) e)
+    where
+      top-level : (m k : ℕ) → 1 ≤ m → parentAt (s .tree) k ≡ noParent → levelAt (s .tree .parents) m k ≡ m
+      top-level zero k g z = absurd (omega arith)
+      top-level (suc m) k g z = simp (eq-eqb _ _ z)
+
+  -- what is under a domain of a path is under the next one too
+  pub span-nested : (c n i : ℕ) → c < cpuCount s → suc n < max →
+      inSpanb (cpuSpanAt (s .tree) (aboveOf (s .tree .parents) (cpuAt s c .parent .0) n)) i ≡ true →
+      inSpanb (cpuSpanAt (s .tree) (aboveOf (s .tree .parents) (cpuAt s c .parent .0) (suc n))) i ≡ true
+  unfolding aboveOf
+  span-nested c n i h b e =
+      let parents = s .tree .parents in
+      let k = aboveOf parents (cpuAt s c .parent .0) n in
+      let o = on-path c n h (omega arith) in
+      let is = span-cpus k i (o .domain) e in
+      let q = span-path i k is (o .domain) e in
+      let z : q .0 ≡ n = omega (arith, sym (o .level) ∙ ap (levelAt parents max) (q .2) ∙ on-path i (q .0) is (q .1) .level) in
+      let same : aboveOf parents (cpuAt s i .parent .0) n ≡ k = ap (aboveOf parents (cpuAt s i .parent .0)) (sym z) ∙ sym (q .2) in
+      ap (λ (j : ℕ). inSpanb (cpuSpanAt (s .tree) (parentAt (s .tree) j)) i) (sym same) ∙ on-path i (suc n) is b .spans

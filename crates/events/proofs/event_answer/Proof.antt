@@ -1,16 +1,16 @@
-use Rattle.script.specs.Run.{eventAnswerOf}
+use Rattle.script.specs.Run.{eventAnswerAs}
 use borrow.Author.Needs.{needs}
 use Rattle.events.proofs.event_answer.Statement.{statement}
 use Rattle.events.proofs.event_answer.Tie as tie
 
 returns : tie.Need-returns
-unfolding eventAnswerOf
+unfolding eventAnswerAs
 returns c =
     simp (
       c .shown-states .ensures,
       c .before .cpu-in .ensures,
       c .before .before .named-cpu .ensures,
-      c .before .before .before .before .before .before .before .before .call .ensures,
+      c .before .before .before .before .before .before .before .before .call-as .ensures,
     )
 
 pub event-answer-spec : {M : Type 1} → statement M

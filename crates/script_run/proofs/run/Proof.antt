@@ -10,20 +10,23 @@ use Rattle.script_laws.proofs.Parts.{some-left, none-left, within-whole}
 use Rattle.script_laws.proofs.Reached.{Reached, reached-start, reached-step, reached-end}
 use Rattle.script_laws.proofs.Record.{read-left, read-within, read-some}
 use Rattle.script_laws.proofs.Run.{run-end, run-spent, run-malformed, run-full}
+use Rattle.script_run.proofs.Carried.{Carried, carried-answer, carried-next}
 use Rattle.script_run.proofs.run.Statement.{statement}
 use Rattle.script_run.proofs.run.Tie as tie
 
 abbrev Inv-loop : tie.InvT-loop
-Inv-loop input out₀ budget at₀ events₀ written₀ state₀ out at events written state =
+Inv-loop input out₀ budget at₀ events₀ written₀ state₀ known out at events written state =
     (events ≤ budget) × (written ≡ answerSize * events)
     × Reached (runOf budget (length out₀) input 0 state₀) out₀ out written
-    (runOf (budget - events) (length out - written) (drop at input) events state)
+    (runOf (budget - events) (length out - written) (drop at input) events state) × Carried known state
 
 abbrev μ-loop : tie.MeasureT-loop
-μ-loop input out₀ budget at₀ events₀ written₀ state₀ out at events written state = budget - events
+μ-loop input out₀ budget at₀ events₀ written₀ state₀ known out at events written state = budget - events
 
 loop-holds : tie.Need-loop-holds Inv-loop μ-loop
-loop-holds c = (search needs, search needs, reached-start _ _ _ _)
+loop-holds c =
+    let t = c .sound-at-start .ensures in
+    (search needs, search needs, reached-start _ _ _ _, record { outcome = t .0; lengths = t .1 })
 
 -- 112
 returns : tie.Need-returns Inv-loop μ-loop
@@ -37,7 +40,7 @@ returns-2 : tie.Need-returns-2 Inv-loop μ-loop
 returns-2 c =
     let t = c .before .before .before .before in
     let l = t .before .before .loop in
-    let input = t .before .before .before .before .before .args .input .now in
+    let input = t .before .before .before .before .before .before .args .input .now in
     let x = c .before .read-record in
     let some = some-left _ _ (t .before .loop-test .taken) in
     let g = read-left _ (l .at) input (x .ensures) in
@@ -49,7 +52,7 @@ add-next : tie.Need-add-next Inv-loop μ-loop
 add-next c =
     let t = c .before .before .before .before .before .before .before in
     let l = t .before .loop in
-    let input = t .before .before .before .before .args .input .now in
+    let input = t .before .before .before .before .before .args .input .now in
     let g = read-left _ (l .at) input (c .before .before .before .read-record .ensures) ∙ c .before .call .given .1 in
     let h = read-within _ _ _ _ g in
     let before = t .loop-test .taken in
@@ -61,7 +64,7 @@ returns-3 : tie.Need-returns-3 Inv-loop μ-loop
 returns-3 c =
     let t = c .before .before .before .before .before .before .before in
     let l = t .before .before .loop in
-    let input = t .before .before .before .before .before .args .input .now in
+    let input = t .before .before .before .before .before .before .args .input .now in
     let g = read-left _ (l .at) input (c .before .before .before .before .read-record .ensures) ∙ c .before .before .call .given .1 in
     reached-end _ _ _ (l .inv .2) (l .inv .1) (run-full _ _ _ _ _ (t .if1 .left) _ _ g (c .if2 .taken))
 
@@ -77,21 +80,23 @@ loop-again c =
     let r = e .before .before .before .before .before in
     let t = r .before .before .before in
     let l = t .before .before .loop in
-    let input = t .before .before .before .before .before .args .input .now in
+    let input = t .before .before .before .before .before .before .args .input .now in
     let g = read-left _ (l .at) input (r .read-record .ensures) ∙ e .before .before .before .call .given .1 in
     let b = t .if1 .left in
-    let w = l .inv .1 in (
+    let w = l .inv .1 in
+    let x = e .event-answer .ensures in (
       omega (arith, b),
       omega (arith, w),
-      reached-step _ _ _ _ _ _ _ _ _ (l .inv .2) b g (e .before .if2 .left) (e .event-answer .ensures)
+      reached-step _ _ _ _ _ _ _ _ _ (l .inv .2) b g (e .before .if2 .left) (carried-answer _ (l .inv .3) x)
           (c .before .before .write-answer .ensures .1),
+      carried-next _ (l .inv .3) x,
     )
 
 -- the clean end
 returns-4 : tie.Need-returns-4 Inv-loop μ-loop
 returns-4 c =
     let l = c .before .loop in
-    let input = c .before .before .before .before .args .input .now in
+    let input = c .before .before .before .before .before .args .input .now in
     reached-end _ _ _ (l .inv .2) (l .inv .1) (run-end _ _ _ _ _ (none-left (l .at) input (search needs)))
 
 pub run-spec : {M : Type 1} → statement M
@@ -100,6 +105,7 @@ run-spec =
     (tie.spec
     Inv-loop
     μ-loop
+    (λ c κs. search needs)
     loop-holds
     (λ c. search needs)
     returns

@@ -7,17 +7,10 @@ returns : tie.Need-returns
 returns c = simp (c .if1 .left)
 
 returns-2 : tie.Need-returns-2
-returns-2 c = simp (c .before .if1 .taken, c .if2 .left)
+returns-2 c = simp (c .before .before .if1 .taken, sym (c .before .is-running .ensures) ∙ c .if2 .left)
 
 returns-3 : tie.Need-returns-3
-returns-3 c =
-    let k = c .before .before in
-    simp (k .before .if1 .taken, k .if2 .taken, sym (c .before .is-running .ensures) ∙ c .if3 .left)
-
-returns-4 : tie.Need-returns-4
-returns-4 c =
-    let k = c .before .before in
-    simp (k .before .if1 .taken, k .if2 .taken, sym (c .before .is-running .ensures) ∙ c .if3 .taken)
+returns-3 c = simp (c .before .before .if1 .taken, sym (c .before .is-running .ensures) ∙ c .if2 .taken)
 
 pub for-caller-spec : {M : Type 1} → statement M
-for-caller-spec = tie.close (tie.spec returns returns-2 (λ c κs. search needs) returns-3 returns-4)
+for-caller-spec = tie.close (tie.spec returns (λ c κs. search needs) returns-2 returns-3)

@@ -5,10 +5,7 @@ returns : tie.Need-returns
 returns c = simp (c .if1 .left)
 
 returns-2 : tie.Need-returns-2
-returns-2 c = simp (c .before .if1 .taken, c .if2 .left)
-
-returns-3 : tie.Need-returns-3
-returns-3 c = simp (c .before .if1 .taken, c .if2 .taken)
+returns-2 c = simp (c .if1 .taken)
 
 pub for-cpu-spec : {M : Type 1} → statement M
-for-cpu-spec = tie.close (tie.spec returns returns-2 returns-3)
+for-cpu-spec = tie.close (tie.spec returns returns-2)

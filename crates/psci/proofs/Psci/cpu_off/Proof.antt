@@ -1,47 +1,14 @@
-use Rattle.model.specs.State.{platformAt}
-use Rattle.model.specs.Steps.{offStep}
-use Rattle.model.specs.Calls.{cpuOffOf}
-use Rattle.psci.proofs.Made.{acted-made, done-made, for-caller-made, refused-made}
-use Prim.{tt}
+use mathlib.Core.Path.{sym, _∙_}
+use borrow.Author.Needs.{needs}
 use Rattle.psci.proofs.Psci.cpu_off.Statement.{statement}
 use Rattle.psci.proofs.Psci.cpu_off.Tie as tie
 
 returns : tie.Need-returns
-unfolding cpuOffOf
-returns c =
-    let k = c .before .before .before .before .before .before in
-    let f = k .before in
-    let a = f .before .before .before .before .before .before .before .before .before .before .before .args in
-    let s = a .self .state in
-    let n = f .before .before .before .before .before .cpu-in .ensures in
-    done-made _ _ _
-    (for-caller-made _ _ _ (f .before .before .before .before .sound .ensures) (f .before .of-answer .ensures) n
-    (f .for-caller .ensures))
-    (k .is-accepted .ensures) (c .before .before .before .before .before .if1 .taken)
-    (acted-made s (a .caller .0) (offStep (s .tree) (s .domains) (platformAt s))
-    (simp (c .before .before .before .before .turn-off .ensures, n)) (c .with-cpu-record .ensures))
+returns c = simp (sym (c .before .before .sound .ensures) ∙ c .before .if1 .taken) (c .cpu-off .ensures)
 
 returns-2 : tie.Need-returns-2
-unfolding cpuOffOf
-returns-2 c =
-    let k = c .before .before in
-    let f = k .before in
-    refused-made _ _ _
-    (for-caller-made _ _ _ (f .before .before .before .before .sound .ensures) (f .before .of-answer .ensures)
-    (f .before .before .before .before .before .cpu-in .ensures) (f .for-caller .ensures))
-    (k .is-accepted .ensures) (c .before .if1 .left) (c .nothing-out .ensures)
+returns-2 c = simp (sym (c .before .before .sound .ensures) ∙ c .before .if1 .left) (c .refused .ensures)
 
 pub cpu-off-spec : {M : Type 1} → statement M
 cpu-off-spec =
-    tie.close
-    (tie.spec
-    (λ c κs. tt)
-    (λ c κs. tt)
-    (λ c κs. tt)
-    (λ c κs. tt)
-    (λ c κs. tt)
-    (λ c κs. tt)
-    (λ c κs. tt)
-    returns
-    (λ c κs. tt)
-    returns-2)
+    tie.close (tie.spec (λ c κs. search needs) (λ c κs. search needs) returns (λ c κs. search needs) returns-2)

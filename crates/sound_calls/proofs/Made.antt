@@ -1,4 +1,4 @@
--- An answer that a method makes is the one that is decided.
+-- An answer that a call makes is the one that is decided.
 use Prim.Native.Nat.{ℕ}
 use mathlib.Core.Bool.{Bool, true, false}
 use mathlib.Core.List.{List}
@@ -16,21 +16,19 @@ use Rattle.model.specs.declared.state.State.{State}
 use Rattle.model.specs.Answer.{accepted, answered, decided, must, nothingOut}
 use Rattle.model.specs.Calls.{acted, forCaller, forCpu, runningb}
 use Rattle.model.specs.Numbers.{acceptedb}
-use Rattle.model.specs.SoundTest.{soundb}
 use Rattle.model.specs.State.{cpuAt, cpuCount, stateOf, withCpu}
 use Rattle.model.specs.Steps.{pendedOf}
 use Rattle.call_laws.proofs.Answer.{decided-no, decided-yes}
 
-module _ (s : State) (c : ℕ) {b : Bool} {own k : Code} (m : Code) (hb : b ≡ soundb s) (ho : own ≡ m) where
+module _ (s : State) (c : ℕ) {own k : Code} (m : Code) (ho : own ≡ m) where
   -- the code of a call that any CPU may make
-  pub for-cpu-made : k ≡ must b code.NotSound (must (ltb c (cpuCount s)) code.NoCaller own) → k ≡ forCpu s c m
-  for-cpu-made hk = hk ∙ rw (hb, ho)
+  pub for-cpu-made : k ≡ must (ltb c (cpuCount s)) code.NoCaller own → k ≡ forCpu s c m
+  for-cpu-made hk = hk ∙ rw ho
 
   -- and of one that needs a running caller
   pub for-caller-made : {node : CpuPowerNode} → node ≡ cpuAt s c →
-      k ≡ must b code.NotSound (must (ltb c (cpuCount s)) code.NoCaller (must (runningb node) code.NotRunning own)) →
-      k ≡ forCaller s c m
-  for-caller-made hn hk = hk ∙ rw (hb, hn, ho)
+      k ≡ must (ltb c (cpuCount s)) code.NoCaller (must (runningb node) code.NotRunning own) → k ≡ forCaller s c m
+  for-caller-made hn hk = hk ∙ rw (hn, ho)
 
 module _ (s : State) {k : Code} (m : Code) (done : CallAnswer) {b : Bool} (hk : k ≡ m) (hb : b ≡ acceptedb k) where
   -- a refusal

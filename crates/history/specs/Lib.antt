@@ -1,0 +1,3 @@
+pub mod History
+pub mod Standing
+pub mod Under

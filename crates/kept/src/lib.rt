@@ -1,0 +1,1 @@
+// Every call keeps a sound state sound, and what it leaves alone: no code.

@@ -1,0 +1,1 @@
+// Demand 3 for scripts, from bytes to states. No code.
