@@ -2,7 +2,7 @@
 use crate::say;
 use cpu::new;
 use cpu::pop_entry_point;
-use cpu::set_entry_point;
+use cpu_lent::with_entry_point;
 use model::cpu::CpuPowerNode;
 use model::cpu::Entry;
 use model::cpu::EntryPoint;
@@ -17,7 +17,7 @@ fn entry(address: u64) -> EntryPoint {
 
 // A CPU that holds the entry at 4096.
 fn holder() -> CpuPowerNode {
-    set_entry_point(new(DomainNumber(1), 3), entry(4096)).cpu
+    with_entry_point(new(DomainNumber(1), 3), entry(4096)).cpu
 }
 
 fn holds(held: Entry, address: u64) -> bool {
@@ -35,7 +35,7 @@ fn nothing(held: Entry) -> bool {
 }
 
 fn run_held() {
-    let over = set_entry_point(holder(), entry(8192));
+    let over = with_entry_point(holder(), entry(8192));
     let code = over.code;
     let cpu = over.cpu;
     let held = cpu.entry_point;

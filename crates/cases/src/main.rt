@@ -6,6 +6,7 @@ mod entries;
 mod platforms;
 mod queries;
 mod requests;
+mod walks;
 
 fn main() {
     answers::run();
@@ -14,6 +15,7 @@ fn main() {
     domains::run();
     queries::run();
     entries::run();
+    walks::run();
 }
 
 // Writes a statement and whether it holds.

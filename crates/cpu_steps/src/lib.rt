@@ -3,6 +3,8 @@ ghost use mathlib.Core.Bool.{cond};
 ghost use mathlib.Core.Path.{_≡_};
 ghost use Rattle.model.specs.Steps.{bootedOf, finishedOf, pendedOf, suspendedOf, turnedOff};
 use composite::is_down;
+use cpu_lent::with_affinity_info;
+use cpu_lent::with_local_state;
 use model::cpu::AffinityInfo;
 use model::cpu::CpuPowerNode;
 use model::cpu::Entry;
@@ -26,10 +28,10 @@ fn entry_if(first: bool, a: Entry, b: Entry) -> Entry
 pub fn pended(node: CpuPowerNode, entry: EntryPoint) -> CpuPowerNode
     ensures { λ r. ⌜ r ≡ pendedOf node entry ⌝ }
 {
+    let pending = with_affinity_info(node, AffinityInfo::OnPending);
     CpuPowerNode {
-        affinity_info: AffinityInfo::OnPending,
         entry_point: Entry::Held(entry),
-        ..node
+        ..pending
     }
 }
 
@@ -37,11 +39,7 @@ pub fn pended(node: CpuPowerNode, entry: EntryPoint) -> CpuPowerNode
 pub fn turned_off(p: Platform, node: CpuPowerNode) -> CpuPowerNode
     ensures { λ r. ⌜ r ≡ turnedOff p node ⌝ }
 {
-    CpuPowerNode {
-        affinity_info: AffinityInfo::Off,
-        local_state: off(p),
-        ..node
-    }
+    with_affinity_info(with_local_state(node, off(p)), AffinityInfo::Off)
 }
 
 // Suspend: the CPU state becomes the level-0 state; if that is power-down, the entry is kept.
@@ -56,11 +54,11 @@ pub fn suspended(
     let state = cpu_level_state(x);
     let held = node.entry_point;
     let kept = entry_if(is_down(p, state), Entry::Held(entry), held);
-    CpuPowerNode {
-        local_state: state,
+    let holder = CpuPowerNode {
         entry_point: kept,
         ..node
-    }
+    };
+    with_local_state(holder, state)
 }
 
 // Finish: the CPU is RUN; a power-down suspend drops the entry.
@@ -69,21 +67,20 @@ pub fn finished(p: Platform, node: CpuPowerNode) -> CpuPowerNode
 {
     let held = node.entry_point;
     let left = entry_if(is_down(p, node.local_state), Entry::Nothing, held);
-    CpuPowerNode {
-        local_state: 0,
+    let holder = CpuPowerNode {
         entry_point: left,
         ..node
-    }
+    };
+    with_local_state(holder, 0)
 }
 
 // Boot: the CPU is On and RUN, and its entry is cleared.
 pub fn booted(node: CpuPowerNode) -> CpuPowerNode
     ensures { λ r. ⌜ r ≡ bootedOf node ⌝ }
 {
-    CpuPowerNode {
-        affinity_info: AffinityInfo::On,
-        local_state: 0,
+    let cleared = CpuPowerNode {
         entry_point: Entry::Nothing,
         ..node
-    }
+    };
+    with_local_state(with_affinity_info(cleared, AffinityInfo::On), 0)
 }

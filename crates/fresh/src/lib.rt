@@ -4,8 +4,8 @@ mod off;
 ghost use mathlib.Core.Path.{_≡_};
 ghost use Rattle.model.specs.Fresh.{allOffOf, broughtUp, freshOf, noState};
 ghost use Rattle.model.specs.Tree.{cpuParentsOf, treeOf};
-use cpu::set_affinity_info;
-use cpu::set_local_state;
+use cpu_lent::with_affinity_info;
+use cpu_lent::with_local_state;
 use cpu_rows::cpu_in;
 use cpu_rows::no_cpu;
 use cpu_rows::with_cpu_record;
@@ -75,7 +75,7 @@ fn bring_up(s: State, cpu: CpuNumber) -> State
 {
     let table = s.cpus;
     let node = cpu_in(table, cpu);
-    let running = set_local_state(set_affinity_info(node, AffinityInfo::On), 0);
+    let running = with_local_state(with_affinity_info(node, AffinityInfo::On), 0);
     let cpus = with_cpu_record(table, cpu, running);
     let rows = s.domains;
     let domains = running_domains(s.tree, rows, s.board.platform.max, running.parent, cpu);

@@ -1,9 +1,12 @@
 -- docs/REFERENCE.md, 'Queries of a state'.
 use Prim.Native.Nat.{ℕ, _-_}
 use mathlib.Core.Bool.{Bool, true, false, cond, _||_}
+use mathlib.Core.List.{List}
 use lib.Dec.{leb, ltb, eqb}
+use lib.ListN.{getD}
 use Rattle.model.specs.declared.code.Code.{Code}
 use Rattle.model.specs.declared.code.Code.the-variants as code
+use Rattle.model.specs.declared.cpu.CpuPowerNode.{CpuPowerNode}
 use Rattle.model.specs.declared.node.Child.{Child}
 use Rattle.model.specs.declared.node.Child.the-variants as child
 use Rattle.model.specs.declared.node.NonCpuPowerNode.{NonCpuPowerNode}
@@ -18,7 +21,7 @@ use Rattle.model.specs.Cpu.{offb, onb}
 use Rattle.model.specs.Node.{nodeOf}
 use Rattle.model.specs.Query.{isLastCpuToIdleOf}
 use Rattle.model.specs.SoundTest.{soundb}
-use Rattle.model.specs.State.{maxAt, offAt, cpuCount, cpuAt, domainStateAt, domainOver}
+use Rattle.model.specs.State.{maxAt, offAt, cpuCount, cpuAt, domainStateAt, domainOver, noCpu}
 use Rattle.model.specs.Table.{levelRowOf}
 use Rattle.model.specs.Tree.{noParent, parentAt, cpuSpanAt, childSpanAt}
 
@@ -32,6 +35,14 @@ refusedTest k = record { code = k; holds = false }
 
 abbrev pub answeredTest : Bool → TestAnswer
 answeredTest b = record { code = code.Accepted; holds = b }
+
+-- in a row of CPU records every one of the first n but this one is Off
+abbrev pub othersOffIn : List CpuPowerNode → ℕ → ℕ → Bool
+othersOffIn cpus n cpu = every n (λ c. eqb c cpu || offb (getD cpus c noCpu .«affinity_info»))
+
+-- every one of the first n is On
+abbrev pub allOnIn : List CpuPowerNode → ℕ → Bool
+allOnIn cpus n = every n (λ c. onb (getD cpus c noCpu .«affinity_info»))
 
 module _ (s : State) where
   -- the node record of domain k of a level
@@ -61,7 +72,7 @@ module _ (s : State) where
 
   -- every CPU but this one is Off
   abbrev pub othersOffb : ℕ → Bool
-  othersOffb cpu = every (cpuCount s) (λ c. eqb c cpu || offb (cpuAt s c .«affinity_info»))
+  othersOffb = othersOffIn (s .cpus) (cpuCount s)
 
   -- 104 for a CPU that is not On
   unfoldable pub isLastCpuOf : CpuNumber → TestAnswer
@@ -71,7 +82,7 @@ module _ (s : State) where
 
   -- every CPU is On
   abbrev pub allOnb : Bool
-  allOnb = every (cpuCount s) (λ c. onb (cpuAt s c .«affinity_info»))
+  allOnb = allOnIn (s .cpus) (cpuCount s)
 
   unfoldable pub areAllCpusOnOf : TestAnswer
   areAllCpusOnOf = cond (soundb s) (answeredTest allOnb) (refusedTest code.NotSound)

@@ -8,6 +8,7 @@ use checks::suspend::suspend_code;
 use checks::system_suspend::system_suspend_code;
 use cpu_rows::cpu_in;
 use cpu_rows::with_cpu_record;
+use cpu_walk::others_off_in;
 use model::answer::CallAnswer;
 use model::answer::Notice;
 use model::code::Code;
@@ -17,7 +18,6 @@ use model::state::State;
 use model::states::CompositeState;
 use outgoing::not_entered_out;
 use outgoing::nothing_out;
-use state_query::off::others_off;
 
 // CPU_OFF: the caller turns itself off. The platform is asked early whether it may.
 pub fn cpu_off(mut state: State, caller: CpuNumber, early_answer: u8) -> CallAnswer
@@ -118,7 +118,7 @@ pub fn system_suspend(
     let rows = state.domains;
     let p = state.board.platform;
     let node = cpu_in(cpus, caller);
-    let last = others_off(cpus, tree.cpu_count, caller.0);
+    let last = others_off_in(cpus, tree.cpu_count, caller.0);
     let mode = state.mode;
     let own = system_suspend_code(p, mode, feature, last, address_good, asked);
     let code = for_caller(caller.0 < tree.cpu_count, node, own);

@@ -7,6 +7,8 @@ use checks::on::on_code;
 use cpu_rows::cpu_in;
 use cpu_rows::with_cpu_record;
 use cpu_steps::pended;
+use cpu_walk::all_on_in;
+use cpu_walk::others_off_in;
 use model::answer::CallAnswer;
 use model::code::Code;
 use model::cpu::EntryPoint;
@@ -14,8 +16,6 @@ use model::sorts::CpuNumber;
 use model::state::State;
 use model::state::SuspendMode;
 use outgoing::nothing_out;
-use state_query::off::others_off;
-use state_query::on::all_on;
 
 // CPU_ON: turns a CPU on. The platform says whether the address is good, and what comes of its own part.
 pub fn cpu_on(
@@ -62,9 +62,9 @@ pub fn set_suspend_mode(
 {
     let cpus = state.cpus;
     let count = state.tree.cpu_count;
-    let last = others_off(cpus, count, caller.0);
+    let last = others_off_in(cpus, count, caller.0);
     let current = state.mode;
-    let own = mode_code(feature, current, mode, last, all_on(cpus, count));
+    let own = mode_code(feature, current, mode, last, all_on_in(cpus, count));
     let code = for_caller(caller.0 < count, cpu_in(cpus, caller), own);
     if code.is_accepted() {
         return CallAnswer {

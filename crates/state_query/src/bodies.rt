@@ -4,15 +4,15 @@ ghost use mathlib.Core.Path.{_≡_};
 ghost use lib.Dec.{leb};
 ghost use Rattle.model.specs.Cpu.{onb};
 ghost use Rattle.model.specs.declared.code.Code.the-variants as code;
-ghost use Rattle.model.specs.Below.{every};
-ghost use Rattle.model.specs.State.{cpuAt, cpuCount, maxAt};
-ghost use Rattle.model.specs.StateQuery.{answeredTest, lastToIdleAt, othersOffb, refusedTest};
+ghost use Rattle.model.specs.State.{cpuAt, maxAt};
+ghost use Rattle.model.specs.StateQuery.{allOnb, answeredTest, lastToIdleAt, othersOffb, refusedTest};
 use crate::nodes::child_over;
 use crate::nodes::domain_over;
 use crate::nodes::node_at;
-use crate::off::others_off;
-use crate::on::all_on;
-use crate::on::on_at;
+use cpu::is_on;
+use cpu_rows::cpu_in;
+use cpu_walk::all_on_in;
+use cpu_walk::others_off_in;
 use model::code::Code;
 use model::node::TestAnswer;
 use model::sorts::CpuNumber;
@@ -68,18 +68,20 @@ pub fn last_query(s: State, cpu: CpuNumber) -> TestAnswer
         (refusedTest code.NotRunning) ⌝ }
 {
     let cpus = s.cpus;
-    let count = s.tree.cpu_count;
-    if on_at(cpus, cpu.0) {
-        return answered_test(others_off(cpus, count, cpu.0));
+    let node = cpu_in(cpus, cpu);
+    let affinity = node.affinity_info;
+    if is_on(affinity) {
+        let count = s.tree.cpu_count;
+        return answered_test(others_off_in(cpus, count, cpu.0));
     }
     refused_test(Code::NotRunning)
 }
 
 // Is every CPU On?
 pub fn on_query(s: State) -> TestAnswer
-    ensures { λ r. ⌜ r ≡ answeredTest (every (cpuCount s) (λ c. onb (cpuAt s c .«affinity_info»))) ⌝ }
+    ensures { λ r. ⌜ r ≡ answeredTest (allOnb s) ⌝ }
 {
     let cpus = s.cpus;
     let count = s.tree.cpu_count;
-    answered_test(all_on(cpus, count))
+    answered_test(all_on_in(cpus, count))
 }

@@ -14,8 +14,6 @@ use soundness::sound;
 
 mod bodies;
 pub mod nodes;
-pub mod off;
-pub mod on;
 
 // Is the CPU the last to idle at a level? 102 for a state that is not sound, 103 for no CPU, 109 for a level above MAX.
 pub fn is_last_cpu_to_idle_at_power_level(s: State, cpu: CpuNumber, level: PowerLevel) -> TestAnswer

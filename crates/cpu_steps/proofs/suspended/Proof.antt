@@ -4,13 +4,20 @@ use Rattle.cpu_steps.proofs.suspended.Tie as tie
 
 returns : tie.Need-returns
 returns c =
+    let kept = c .before .before in
     simp (
-      c .before .entry-if .ensures,
-      c .before .before .is-down .ensures,
-      c .before .before .before .cpu-level-state .ensures,
+      c .with-local-state .ensures,
+      kept .entry-if .ensures,
+      kept .before .is-down .ensures,
+      kept .before .before .cpu-level-state .ensures,
     )
 
 pub suspended-spec : {M : Type 1} → statement M
 suspended-spec =
     tie.close
-    (tie.spec (λ c κs. search needs) (λ c κs. search needs) (λ c κs. search needs) returns)
+    (tie.spec
+    (λ c κs. search needs)
+    (λ c κs. search needs)
+    (λ c κs. search needs)
+    (λ c κs. search needs)
+    returns)

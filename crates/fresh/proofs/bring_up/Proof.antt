@@ -10,8 +10,8 @@ returns c =
     simp (
       up .running-domains .ensures,
       put .with-cpu-record .ensures,
-      set .set-local-state .ensures,
-      set .before .set-affinity-info .ensures,
+      set .with-local-state .ensures,
+      set .before .with-affinity-info .ensures,
       set .before .before .cpu-in .ensures,
     )
 

@@ -16,7 +16,7 @@ returns c =
     refused-made _ _ _ (for-caller-made s _ _
     (simp (
       f .before .before .before .system-suspend-code .ensures,
-      f .before .before .before .before .others-off .ensures,
+      f .before .before .before .before .others-off-in .ensures,
     ))
     (f .before .before .before .before .before .cpu-in .ensures) (f .for-caller .ensures))
     (k .is-accepted .ensures) (c .before .if1 .left) (c .nothing-out .ensures)
@@ -30,7 +30,7 @@ returns-2 c =
     done-made _ _ _ (for-caller-made s _ _
     (simp (
       f .before .before .before .system-suspend-code .ensures,
-      f .before .before .before .before .others-off .ensures,
+      f .before .before .before .before .others-off-in .ensures,
     ))
     (f .before .before .before .before .before .cpu-in .ensures) (f .for-caller .ensures))
     (k .is-accepted .ensures) (c .before .before .if1 .taken) (simp (c .before .if2 .taken, c .not-entered-out .ensures))
@@ -46,7 +46,7 @@ returns-3 c =
     done-made _ _ _ (for-caller-made s _ _
     (simp (
       f .before .before .before .system-suspend-code .ensures,
-      f .before .before .before .before .others-off .ensures,
+      f .before .before .before .before .others-off-in .ensures,
     ))
     n (f .for-caller .ensures))
     (k .is-accepted .ensures) (c .before .before .before .before .before .before .if1 .taken)

@@ -13,8 +13,8 @@ returns c =
     done-made _ _ _ (for-caller-made s _ _
     (simp (
       f .before .before .before .mode-code .ensures,
-      f .before .before .before .before .all-on .ensures,
-      f .before .before .before .before .before .others-off .ensures,
+      f .before .before .before .before .all-on-in .ensures,
+      f .before .before .before .before .before .others-off-in .ensures,
     ))
     (f .before .cpu-in .ensures) (f .for-caller .ensures))
     (k .is-accepted .ensures) (c .before .before .before .before .before .if1 .taken)
@@ -29,8 +29,8 @@ returns-2 c =
     refused-made _ _ _ (for-caller-made s _ _
     (simp (
       f .before .before .before .mode-code .ensures,
-      f .before .before .before .before .all-on .ensures,
-      f .before .before .before .before .before .others-off .ensures,
+      f .before .before .before .before .all-on-in .ensures,
+      f .before .before .before .before .before .others-off-in .ensures,
     ))
     (f .before .cpu-in .ensures) (f .for-caller .ensures))
     (k .is-accepted .ensures) (c .before .if1 .left) (c .nothing-out2 .ensures)

@@ -1,0 +1,43 @@
+// The last-CPU and the all-on test, at the last CPU of a table and past its end.
+use crate::say;
+use cpu::new;
+use cpu::set_affinity_info;
+use cpu_rows::with_cpu_record;
+use cpu_walk::all_on_in;
+use cpu_walk::others_off_in;
+use model::cpu::AffinityInfo;
+use model::cpu::CpuPowerNode;
+use model::limits::CPUS;
+use model::sorts::CpuNumber;
+use model::sorts::DomainNumber;
+
+// Sixteen CPUs, of which the last has an affinity of its own.
+fn table(all: AffinityInfo, last: AffinityInfo) -> [CpuPowerNode; CPUS] {
+    let node = set_affinity_info(new(DomainNumber(1), 3), all);
+    with_cpu_record([node; CPUS], CpuNumber(15), set_affinity_info(node, last))
+}
+
+fn run_others_off() {
+    let cpus = table(AffinityInfo::Off, AffinityInfo::OnPending);
+    say(
+        b"CPU 15 is OnPending, so not all others are Off",
+        others_off_in(cpus, 15, 0) & (others_off_in(cpus, 16, 0) == false),
+    );
+    say(
+        b"it may ask itself; a seventeenth CPU is not Off",
+        others_off_in(cpus, 16, 15) & (others_off_in(cpus, 17, 15) == false),
+    );
+}
+
+fn run_all_on() {
+    let cpus = table(AffinityInfo::On, AffinityInfo::Off);
+    say(
+        b"CPU 15 is Off, so not all are On",
+        all_on_in(cpus, 15) & (all_on_in(cpus, 16) == false),
+    );
+}
+
+pub(super) fn run() {
+    run_others_off();
+    run_all_on();
+}

@@ -1,0 +1,14 @@
+pub mod Ask
+pub mod At
+pub mod Elements
+pub mod Every
+pub mod EveryWith
+pub mod Lender
+pub mod LenderWith
+pub mod Lent
+pub mod LentAsk
+pub mod Plain
+pub mod Records
+pub mod Rows
+pub mod Set
+pub mod Slot
