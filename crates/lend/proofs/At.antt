@@ -42,8 +42,8 @@ use denote.Steps.{owned, peeks, heard, nothing}
 use denote.Triple.Statement.{Triple}
 use denote.Triple.Call.{calls-at}
 use denote.Triple.Spec.{Meets, tripleOf}
-use denote.Triple.Clauses.{ensured, closing}
-use denote.Triple.Walked.{says, walkOf, Walks, ends-at, walked, walk-meets}
+use denote.Triple.Clauses.{Clauses, Ended, ensured, closing}
+use denote.Triple.Walked.{says, Stays, walkOf, Walks, ends-at, walked, walk-meets}
 use denote.Triple.Walked.{goes-none-slice, goes-none as goes-plain}
 use Rattle.lend.proofs.Plain.{Kind, row, vals, makes, copies}
 use Rattle.lend.proofs.Rows.{lent, lent-vals, Own, none-ended, none-clauses, None, to-none, goes-none, said-none}
@@ -52,6 +52,15 @@ use Rattle.lend.proofs.Rows.{row-ended, row-clauses, row-stays}
 module _ (S : Kind) (d : S .X) where
   abbrev pub read : List (S .X) → ℕ → S .X
   read l i = getD l i d
+
+  abbrev ended : Ended
+  ended = row-ended S S read
+
+  abbrev clauses : {M : Type 1} (𝓤 : URA M) → Clauses 𝓤 ended
+  clauses 𝓤 = row-clauses S S read 𝓤
+
+  abbrev stayed : Stays (ended .signature .params) (ended .kept)
+  stayed = row-stays S S read
 
   abbrev slice : Ty
   slice = sliceTy (tyRef (named 0) imm (pointee (S .written)))
@@ -112,13 +121,13 @@ module _ (S : Kind) (d : S .X) where
     elem = getD ys i d
 
     abbrev Post : Val → SProp 𝓤
-    Post = walkOf 𝓤 H A (row-ended S S read) (row-stays S S read) (row-clauses S S read 𝓤) .post (((κ, tt), (q, tt), tt, args, mach), tt)
+    Post = walkOf 𝓤 H A ended stayed (clauses 𝓤) .post (((κ, tt), (q, tt), tt, args, mach), tt)
 
     exits : (v : Val) (r : S .X) → r ≡ elem → Is (row S) r (v ∷ []) → ent 𝓤 (sep 𝓤 (A .lft κ q) (sem 𝓤 H A owned-row)) (Post v)
     exits v r e is =
         qed W (‵ (flft κ q) ∷ ‵ owned-row ∷ []) ∵
         suffices ! _
-        (ends-at 𝓤 H A (row-ended S S read) (row-stays S S read) (row-clauses S S read 𝓤) W (((κ, tt), (q, tt), tt, args, mach), tt) v r (tt, (tt, tt)) (tt, (tt, tt))) $
+        (ends-at 𝓤 H A ended stayed (clauses 𝓤) W (((κ, tt), (q, tt), tt, args, mach), tt) v r (tt, (tt, tt)) (tt, (tt, tt))) $
         says ! e $ nothing ! $ move ! (1 ∷ 0 ∷ []) $ join ! $ frame ! $ nothing ! $
         owned ! usize (Is usize) (uint-makes 𝓤 H A W w64) i _ (refl, gi) $ fjoin ! $ move ! (1 ∷ 0 ∷ []) $ fjoin ! $ frame ! $
         owned ! (row S) (Is (row S)) (makes S 𝓤 H A) r _ is $ done !
@@ -158,7 +167,7 @@ module _ (S : Kind) (d : S .X) where
     module _ (𝓣 : Tables 𝓤 H) (#none : Name) (known : Triple 𝓤 (𝓣 .C #none) (None S d 𝓤 H A)) where
       walk : T (ltb (size (S .ty)) (2 ^ 64)) → Room (row S) (length ys) →
           ent 𝓤
-          (onEntry 𝓤 H A (row-ended S S read .signature) (κ, tt) (q, tt) args mach)
+          (onEntry 𝓤 H A (ended .signature) (κ, tt) (q, tt) args mach)
           (WpFn 𝓤 H (𝓣 .C) (𝓣 .Λ) (function #none) (sliceVal (b, o) (length ys) ∷ vint w64 i ∷ []) Post)
       walk small gn =
           qed W ((‵ (flft κ q) ⊛ ‵ ftrue) ∷ ‵ (owns (ShrSlice (named 0) κ (row S) ∷ usize ∷ []) args mach) ∷ []) ∵
@@ -194,14 +203,17 @@ module _ (S : Kind) (d : S .X) where
           elem-back ! (row S) q′ ys i d (vals S elem) b o l $ shuts-slice ! tt (row S) q′ ys b o $
           -- [the token; the fractured borrow; _7; …; _0; …; what s owns]
           returns-within ! Post refl (look ! 16 refl) $
-          forget ! 2 refl $ forget ! 4 refl $ forget ! 6 refl $ forget ! 8 refl $ forget ! 10 refl $ forget ! 12 refl $ forget ! 14 refl $ forget ! 16 refl $
+          forget ! 2 refl $ forget ! 4 refl $ forget ! 6 refl $ forget ! 8 refl $ forget ! 10 refl $ forget ! 12 refl $
+          forget ! 14 refl $ forget ! 16 refl $
           keep ! (0 ∷ 18 ∷ 2 ∷ 3 ∷ 4 ∷ 5 ∷ 6 ∷ 7 ∷ 8 ∷ 9 ∷ 10 ∷ 11 ∷ 12 ∷ 13 ∷ 14 ∷ 15 ∷ 16 ∷ 17 ∷ []) $
           frees-all l₀ l₁ l₂ l₃ l₄ l₅ l₆ l₇ (S .val elem) elem refl g)))
           (λ y. let end = List·getD-eq-default ys d (nltb→le i (length ys) y) in
           skips ! $ exec ! (𝓣 .C) (𝓣 .Λ) (E l₀ l₁ l₂ l₃ l₄ l₅ l₆ l₇) (past #none) (atRet (E l₀ l₁ l₂ l₃ l₄ l₅ l₆ l₇) Post) $
           use0 W (raw (None S d 𝓤 H A .pre (to-none S d 𝓤 H A W))) (goes-none S d 𝓤 H A W) $
           calls-at ! (fmOf 𝓤 H (W .laws) 𝓣) (None S d 𝓤 H A) known (to-none S d 𝓤 H A W) (no-more !) (λ v.
-          use1 W (later (some (λ (r : S .X). (‵ ftrue ⊛ ‵ (row S .own r (v ∷ []))) ⊛ raw (ensured 𝓤 H A (none-ended S d) (none-clauses S d 𝓤) tt tt tt r))))
+          use1 W
+          (later (some (λ (r : S .X).
+          (‵ ftrue ⊛ ‵ (row S .own r (v ∷ []))) ⊛ raw (ensured 𝓤 H A (none-ended S d) (none-clauses S d 𝓤) tt tt tt r))))
           (id⊢ 𝓤 _) $ await ! tt $ pick ! (λ r.
           split ! $ move ! (1 ∷ []) $ use1 W (raw (fact 𝓤 (r ≡ d))) (said-none S d 𝓤 H A W r) $ heard ! (r ≡ d) (λ e. split ! $ drop ! $
           peeks ! (row S) (Is (row S)) (shows 𝓤 H A (row S)) r (v ∷ []) (λ is.
@@ -214,19 +226,20 @@ module _ (S : Kind) (d : S .X) where
 
   module _ {M : Type 1} (𝓤 : URA M) (H : Heap 𝓤) (A : Atoms 𝓤) (W : Given 𝓤 H A) (small : T (ltb (size (S .ty)) (2 ^ 64)))
       (𝓣 : Tables 𝓤 H) (#none : Name) (known : Triple 𝓤 (𝓣 .C #none) (None S d 𝓤 H A)) where
-    walks : Walks 𝓤 H A (row-ended S S read) (row-stays S S read) (WpFn 𝓤 H (𝓣 .C) (𝓣 .Λ) (function #none)) (row-clauses S S read 𝓤)
+    walks : Walks 𝓤 H A ended stayed (WpFn 𝓤 H (𝓣 .C) (𝓣 .Λ) (function #none)) (clauses 𝓤)
     walks =
-        walked 𝓤 H A (row-ended S S read) (row-stays S S read) (row-clauses S S read 𝓤) (WpFn 𝓤 H (𝓣 .C) (𝓣 .Λ) (function #none))
+        walked 𝓤 H A ended stayed (clauses 𝓤) (WpFn 𝓤 H (𝓣 .C) (𝓣 .Λ) (function #none))
         (λ κs. (slice-vals, (uint-vals w64, tt)))
         (λ κs. (shr-slice-tells (named 0) (κs .0) (row S), (uint-tells w64, tt)))
         (λ κs qs bounds a g are. via 𝓤 _ (fst∗ 𝓤 _ (emp 𝓤))
-        (walk 𝓤 H A W (κs .0) (qs .0) (a .0 .ptr .0) (a .0 .ptr .1) (a .0 .name) (a .0 .now) (a .1 .0) (are .1 .0 .1) 𝓣 #none known small (are .0 .0 .1)))
+        (walk 𝓤 H A W (κs .0) (qs .0) (a .0 .ptr .0) (a .0 .ptr .1) (a .0 .name) (a .0 .now) (a .1 .0) (are .1 .0 .1)
+        𝓣 #none known small (are .0 .0 .1)))
 
-    pub at-meets : Meets 𝓤 H A (row-ended S S read .signature) (WpFn 𝓤 H (𝓣 .C) (𝓣 .Λ) (function #none)) (closing 𝓤 H A (row-ended S S read) (row-clauses S S read 𝓤))
+    at-meets : Meets 𝓤 H A (ended .signature) (WpFn 𝓤 H (𝓣 .C) (𝓣 .Λ) (function #none)) (closing 𝓤 H A ended (clauses 𝓤))
     at-meets =
-        walk-meets 𝓤 H A (row-ended S S read) (row-stays S S read) W
+        walk-meets 𝓤 H A ended stayed W
         (goes-none-slice 𝓤 H A W 1 (0 ∷ []) tt (plain (λ _. row S)) yes, (goes-plain 𝓤 H A W 1 (λ _. usize) yes (λ κs x f. refl), tt))
-        (row-clauses S S read 𝓤) (WpFn 𝓤 H (𝓣 .C) (𝓣 .Λ) (function #none)) (WpFn-mono 𝓤 H (W .laws) 𝓣 (function #none)) walks
+        (clauses 𝓤) (WpFn 𝓤 H (𝓣 .C) (𝓣 .Λ) (function #none)) (WpFn-mono 𝓤 H (W .laws) 𝓣 (function #none)) walks
 
   -- the whole of a proof: env is the function's environment, #f its key, and none's routine meets its contract
   module _ {M : Type 1} (𝓤 : URA M) (H : Heap 𝓤) (𝓜 : Model 𝓤 H) (𝓖 : GhostRules 𝓤 H) (𝓡 : Running 𝓤 H 𝓜) where
@@ -234,10 +247,10 @@ module _ (S : Kind) (d : S .X) where
         Closed 𝓤 H (tables 𝓤 H 𝓜 𝓡 env .C) (tables 𝓤 H 𝓜 𝓡 env .Λ) #f (function #none) →
         (rn : Routine) → env #none ≡ rn → Triple 𝓤 (𝓡 .run rn) (None S d 𝓤 H (𝓖 .A)) →
         T (ltb (size (S .ty)) (2 ^ 64)) →
-        Meets 𝓤 H (𝓖 .A) (row-ended S S read .signature) (𝓡 .run (env #f)) (closing 𝓤 H (𝓖 .A) (row-ended S S read) (row-clauses S S read 𝓤))
+        Meets 𝓤 H (𝓖 .A) (ended .signature) (𝓡 .run (env #f)) (closing 𝓤 H (𝓖 .A) ended (clauses 𝓤))
     unfolding tablesOf
     read-at env #f #none closed rn n-is n-met small =
-        entered 𝓤 H (tripleOf 𝓤 H (𝓖 .A) (row-ended S S read .signature) (closing 𝓤 H (𝓖 .A) (row-ended S S read) (row-clauses S S read 𝓤)))
+        entered 𝓤 H (tripleOf 𝓤 H (𝓖 .A) (ended .signature) (closing 𝓤 H (𝓖 .A) ended (clauses 𝓤)))
         (tables 𝓤 H 𝓜 𝓡 env .C) (tables 𝓤 H 𝓜 𝓡 env .Λ) #f (function #none) closed
         (at-meets 𝓤 H (𝓖 .A) (givenOf 𝓤 H 𝓜 𝓖) small (tablesOf 𝓤 H 𝓜 (tables 𝓤 H 𝓜 𝓡 env)) #none
         (cited 𝓤 H (None S d 𝓤 H (𝓖 .A)) 𝓜 𝓡 env #none rn n-is n-met))

@@ -44,7 +44,7 @@ use denote.Triple.Statement.{Contract, Triple}
 use denote.Triple.Call.{calls-at}
 use denote.Triple.Spec.{Meets, tripleOf}
 use denote.Triple.Clauses.{Clauses, Ended, ensured, lasts, closing}
-use denote.Triple.Walked.{says, walkOf, Walks, ends-at, walked, goes-none-slice, goes-none, walk-meets}
+use denote.Triple.Walked.{says, Stays, walkOf, Walks, ends-at, walked, goes-none-slice, goes-none, walk-meets}
 use Rattle.lend.proofs.At.{read}
 use Rattle.lend.proofs.Plain.{Kind, row, makes, of-bool}
 use Rattle.lend.proofs.Rows.{holds, fails, lent, lent-vals, Own, row-ended, row-clauses, row-stays, OnRow, to-row, goes-row, said-row}
@@ -70,6 +70,19 @@ module _ (S : Kind) (d : S .X) (p : S .X → Bool) (G : List (S .X) → ℕ → 
 
   abbrev pub Test : {M : Type 1} (𝓤 : URA M) (H : Heap 𝓤) (A : Atoms 𝓤) → Contract 𝓤
   Test 𝓤 H A = tripleOf 𝓤 H A (test-ended .signature) (closing 𝓤 H A test-ended (test-clauses 𝓤))
+
+  abbrev ended : Ended
+  ended = row-ended S of-bool G
+
+  abbrev clauses : {M : Type 1} (𝓤 : URA M) → Clauses 𝓤 ended
+  clauses 𝓤 = row-clauses S of-bool G 𝓤
+
+  abbrev stayed : Stays (ended .signature .params) (ended .kept)
+  stayed = row-stays S of-bool G
+
+  -- the read of a record
+  abbrev Read : {M : Type 1} (𝓤 : URA M) (H : Heap 𝓤) (A : Atoms 𝓤) → Contract 𝓤
+  Read 𝓤 H A = OnRow S S (read S d) 𝓤 H A
 
   abbrev slice : Ty
   slice = sliceTy (tyRef (named 0) imm (pointee (S .written)))
@@ -130,17 +143,20 @@ module _ (S : Kind) (d : S .X) (p : S .X → Bool) (G : List (S .X) → ℕ → 
     mach = (lent-vals S κ b o γ ys, (vint w64 n ∷ [], tt))
 
     abbrev Post : Val → SProp 𝓤
-    Post = walkOf 𝓤 H A (row-ended S of-bool G) (row-stays S of-bool G) (row-clauses S of-bool G 𝓤) .post (((κ, tt), (q, tt), tt, args, mach), tt)
+    Post = walkOf 𝓤 H A ended stayed (clauses 𝓤) .post (((κ, tt), (q, tt), tt, args, mach), tt)
 
     exits : (r : Bool) → r ≡ G ys n → ent 𝓤 (sep 𝓤 (A .lft κ q) (sem 𝓤 H A owned-row)) (Post (vbool r))
     exits r e =
         qed W (‵ (flft κ q) ∷ ‵ owned-row ∷ []) ∵
         suffices ! _
-        (ends-at 𝓤 H A (row-ended S of-bool G) (row-stays S of-bool G) (row-clauses S of-bool G 𝓤) W
+        (ends-at 𝓤 H A ended stayed (clauses 𝓤) W
         (((κ, tt), (q, tt), tt, args, mach), tt) (vbool r) r (tt, (tt, tt)) (tt, (tt, tt))) $
         says ! e $ nothing ! $ move ! (1 ∷ 0 ∷ []) $ join ! $ frame ! $ nothing ! $
         owned ! usize (Is usize) (uint-makes 𝓤 H A W w64) n _ (refl, fits) $ fjoin ! $ move ! (1 ∷ 0 ∷ []) $ fjoin ! $ frame ! $
         owned ! Boolean (Is Boolean) (bool-makes 𝓤 H A W) r _ refl $ done !
+
+    abbrev to-read : ℕ → Read 𝓤 H A .Ghost
+    to-read = to-row S S (read S d) 𝓤 H A W κ q b o γ ys
 
     -- a call of the test at place i
     module _ (i : ℕ) where
@@ -158,7 +174,8 @@ module _ (S : Kind) (d : S .X) (p : S .X → Bool) (G : List (S .X) → ℕ → 
       said-test : (r : Bool) → ent 𝓤 (ensured 𝓤 H A test-ended (test-clauses 𝓤) tt (elem, tt) tt r) (fact 𝓤 (r ≡ p elem))
       said-test r = exE 𝓤 _ (λ ws. snd∗ 𝓤 (sem 𝓤 H A (lasts test-ended tt (elem, tt) ws)) (fact 𝓤 (r ≡ p elem)))
 
-    module _ (𝓣 : Tables 𝓤 H) (#at #test : Name) (known-at : Triple 𝓤 (𝓣 .C #at) (OnRow S S (read S d) 𝓤 H A)) (known-test : Triple 𝓤 (𝓣 .C #test) (Test 𝓤 H A)) where
+    module _ (𝓣 : Tables 𝓤 H) (#at #test : Name) (known-at : Triple 𝓤 (𝓣 .C #at) (Read 𝓤 H A))
+        (known-test : Triple 𝓤 (𝓣 .C #test) (Test 𝓤 H A)) where
       abbrev C : Calls 𝓤 H
       C = 𝓣 .C
 
@@ -226,13 +243,16 @@ module _ (S : Kind) (d : S .X) (p : S .X → Bool) (G : List (S .X) → ℕ → 
             skips ! $ exec ! C Λ E (look-at #at #test) (anyQ (Turned t)) $
             -- a `&` is Copy: one copy goes to the callee
             move ! (1 ∷ []) $
-            use1 W (‵ owned-row ⊛ ‵ owned-row) (shr-slice-copy 𝓤 H A W (named 0) κ (row S) .twice s (mach .0)) $ split ! $ move ! (0 ∷ 2 ∷ []) $
-            use2 W (raw (OnRow S S (read S d) 𝓤 H A .pre (to-row S S (read S d) 𝓤 H A W κ q b o γ ys (n - t)))) (goes-row S S (read S d) 𝓤 H A W κ q b o γ ys (n - t) narrow) $
-            calls-at ! (fmOf 𝓤 H (W .laws) 𝓣) (OnRow S S (read S d) 𝓤 H A) known-at (to-row S S (read S d) 𝓤 H A W κ q b o γ ys (n - t))
+            use1 W (‵ owned-row ⊛ ‵ owned-row) (shr-slice-copy 𝓤 H A W (named 0) κ (row S) .twice s (mach .0)) $
+            split ! $ move ! (0 ∷ 2 ∷ []) $
+            use2 W (raw (Read 𝓤 H A .pre (to-read (n - t))))
+            (goes-row S S (read S d) 𝓤 H A W κ q b o γ ys (n - t) narrow) $
+            calls-at ! (fmOf 𝓤 H (W .laws) 𝓣) (Read 𝓤 H A) known-at (to-read (n - t))
             (and-then ! (load ! (from ! (stop !)) (look ! 12 refl)) (and-then ! (load ! (from ! (stop !)) (look ! 8 refl)) (no-more !))) (λ v.
             use1 W
             (later (some (λ (r : S .X).
-            ((‵ (flft κ q) ⊛ ‵ ftrue) ⊛ ‵ (row S .own r (v ∷ []))) ⊛ raw (ensured 𝓤 H A (row-ended S S (read S d)) (row-clauses S S (read S d) 𝓤) (κ, tt) (s, (n - t, tt)) tt r))))
+            ((‵ (flft κ q) ⊛ ‵ ftrue) ⊛ ‵ (row S .own r (v ∷ [])))
+            ⊛ raw (ensured 𝓤 H A (row-ended S S (read S d)) (row-clauses S S (read S d) 𝓤) (κ, tt) (s, (n - t, tt)) tt r))))
             (id⊢ 𝓤 _) $ await ! tt $ pick ! (λ r.
             split ! $ move ! (1 ∷ []) $ use1 W (raw (fact 𝓤 (r ≡ elem (n - t)))) (said-row S S (read S d) 𝓤 H A W κ q b o γ ys (n - t) r) $
             heard ! (r ≡ elem (n - t)) (λ e. split ! $ split ! $ move ! (2 ∷ []) $
@@ -281,7 +301,7 @@ module _ (S : Kind) (d : S .X) (p : S .X → Bool) (G : List (S .X) → ℕ → 
 
       walk :
           ent 𝓤
-          (onEntry 𝓤 H A (row-ended S of-bool G .signature) (κ, tt) (q, tt) args mach)
+          (onEntry 𝓤 H A (ended .signature) (κ, tt) (q, tt) args mach)
           (WpFn 𝓤 H C Λ (function #at #test) (sliceVal (b, o) (length ys) ∷ vint w64 n ∷ []) Post)
       walk =
           let start : 0 ≡ n - n = omega arith in
@@ -301,10 +321,10 @@ module _ (S : Kind) (d : S .X) (p : S .X → Bool) (G : List (S .X) → ℕ → 
           first ! $ blocks ! $ loops ! 𝓣 _<_ (Nat·lt-wfRel .wf) (I l₀ l₁ l₂ l₃ l₄ l₅ l₆) (turns l₀ l₁ l₂ l₃ l₄ l₅ l₆) n)))))))
 
   module _ {M : Type 1} (𝓤 : URA M) (H : Heap 𝓤) (A : Atoms 𝓤) (W : Given 𝓤 H A) (𝓣 : Tables 𝓤 H) (#at #test : Name)
-      (known-at : Triple 𝓤 (𝓣 .C #at) (OnRow S S (read S d) 𝓤 H A)) (known-test : Triple 𝓤 (𝓣 .C #test) (Test 𝓤 H A)) where
-    walks : Walks 𝓤 H A (row-ended S of-bool G) (row-stays S of-bool G) (WpFn 𝓤 H (𝓣 .C) (𝓣 .Λ) (function #at #test)) (row-clauses S of-bool G 𝓤)
+      (known-at : Triple 𝓤 (𝓣 .C #at) (Read 𝓤 H A)) (known-test : Triple 𝓤 (𝓣 .C #test) (Test 𝓤 H A)) where
+    walks : Walks 𝓤 H A ended stayed (WpFn 𝓤 H (𝓣 .C) (𝓣 .Λ) (function #at #test)) (clauses 𝓤)
     walks =
-        walked 𝓤 H A (row-ended S of-bool G) (row-stays S of-bool G) (row-clauses S of-bool G 𝓤) (WpFn 𝓤 H (𝓣 .C) (𝓣 .Λ) (function #at #test))
+        walked 𝓤 H A ended stayed (clauses 𝓤) (WpFn 𝓤 H (𝓣 .C) (𝓣 .Λ) (function #at #test))
         (λ κs. (slice-vals, (uint-vals w64, tt)))
         (λ κs. (shr-slice-tells (named 0) (κs .0) (row S), (uint-tells w64, tt)))
         (λ κs qs bounds a g are. via 𝓤 _ (fst∗ 𝓤 _ (emp 𝓤))
@@ -312,25 +332,25 @@ module _ (S : Kind) (d : S .X) (p : S .X → Bool) (G : List (S .X) → ℕ → 
         (are .0 .0 .1) (are .1 .0 .1) 𝓣 #at #test known-at known-test))
 
     every-meets :
-        Meets 𝓤 H A (row-ended S of-bool G .signature) (WpFn 𝓤 H (𝓣 .C) (𝓣 .Λ) (function #at #test)) (closing 𝓤 H A (row-ended S of-bool G) (row-clauses S of-bool G 𝓤))
+        Meets 𝓤 H A (ended .signature) (WpFn 𝓤 H (𝓣 .C) (𝓣 .Λ) (function #at #test)) (closing 𝓤 H A ended (clauses 𝓤))
     every-meets =
-        walk-meets 𝓤 H A (row-ended S of-bool G) (row-stays S of-bool G) W (
+        walk-meets 𝓤 H A ended stayed W (
           goes-none-slice 𝓤 H A W 1 (0 ∷ []) tt (plain (λ _. row S)) yes,
           (goes-none 𝓤 H A W 1 (λ _. usize) yes (λ κs x f. refl), tt),
         )
-        (row-clauses S of-bool G 𝓤) (WpFn 𝓤 H (𝓣 .C) (𝓣 .Λ) (function #at #test)) (WpFn-mono 𝓤 H (W .laws) 𝓣 (function #at #test)) walks
+        (clauses 𝓤) (WpFn 𝓤 H (𝓣 .C) (𝓣 .Λ) (function #at #test)) (WpFn-mono 𝓤 H (W .laws) 𝓣 (function #at #test)) walks
 
   -- the whole of a proof: env is the function's environment, #f its key, and each callee's routine meets its contract
   module _ {M : Type 1} (𝓤 : URA M) (H : Heap 𝓤) (𝓜 : Model 𝓤 H) (𝓖 : GhostRules 𝓤 H) (𝓡 : Running 𝓤 H 𝓜) where
     pub every-of : (env : REnv) (#f #at #test : Name) →
         Closed 𝓤 H (tables 𝓤 H 𝓜 𝓡 env .C) (tables 𝓤 H 𝓜 𝓡 env .Λ) #f (function #at #test) →
-        (ra : Routine) → env #at ≡ ra → Triple 𝓤 (𝓡 .run ra) (OnRow S S (read S d) 𝓤 H (𝓖 .A)) →
+        (ra : Routine) → env #at ≡ ra → Triple 𝓤 (𝓡 .run ra) (Read 𝓤 H (𝓖 .A)) →
         (rt : Routine) → env #test ≡ rt → Triple 𝓤 (𝓡 .run rt) (Test 𝓤 H (𝓖 .A)) →
-        Meets 𝓤 H (𝓖 .A) (row-ended S of-bool G .signature) (𝓡 .run (env #f)) (closing 𝓤 H (𝓖 .A) (row-ended S of-bool G) (row-clauses S of-bool G 𝓤))
+        Meets 𝓤 H (𝓖 .A) (ended .signature) (𝓡 .run (env #f)) (closing 𝓤 H (𝓖 .A) ended (clauses 𝓤))
     unfolding tablesOf
     every-of env #f #at #test closed ra a-is a-met rt t-is t-met =
-        entered 𝓤 H (tripleOf 𝓤 H (𝓖 .A) (row-ended S of-bool G .signature) (closing 𝓤 H (𝓖 .A) (row-ended S of-bool G) (row-clauses S of-bool G 𝓤)))
+        entered 𝓤 H (tripleOf 𝓤 H (𝓖 .A) (ended .signature) (closing 𝓤 H (𝓖 .A) ended (clauses 𝓤)))
         (tables 𝓤 H 𝓜 𝓡 env .C) (tables 𝓤 H 𝓜 𝓡 env .Λ) #f (function #at #test) closed
         (every-meets 𝓤 H (𝓖 .A) (givenOf 𝓤 H 𝓜 𝓖) (tablesOf 𝓤 H 𝓜 (tables 𝓤 H 𝓜 𝓡 env)) #at #test
-        (cited 𝓤 H (OnRow S S (read S d) 𝓤 H (𝓖 .A)) 𝓜 𝓡 env #at ra a-is a-met)
+        (cited 𝓤 H (Read 𝓤 H (𝓖 .A)) 𝓜 𝓡 env #at ra a-is a-met)
         (cited 𝓤 H (Test 𝓤 H (𝓖 .A)) 𝓜 𝓡 env #test rt t-is t-met))

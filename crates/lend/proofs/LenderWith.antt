@@ -11,7 +11,7 @@ use mir.Syntax.{Name, Ty, Fn, named, erased, imm, w64, tyInt, tyRef, tyArray, pl
 use mir.Syntax.{seq, assign, return, rvOpd, addrOf, aggregate, call}
 use mir.Val.{vint, Val}
 use base.Logic.{SProp, ent, emp, via, fst∗, id⊢}
-use base.Fml.{GName, ftrue, fat, flft, flent}
+use base.Fml.{Lft, GName, ftrue, fat, flft, flent}
 use prog.Wp.{Heap, Calls, Loops, WpFn, Tables, Closed}
 use prog.Model.{Model}
 use prog.Routine.{Routine, Env as REnv}
@@ -114,22 +114,30 @@ module _ (S Q B : Kind) (N : ℕ) (F : List (S .X) → ℕ → Q .X → B .X) wh
     exits : (v : Val) → Is (row B) (F ys n x) (v ∷ []) → ent 𝓤 (emp 𝓤) (Post v)
     exits v is =
         qed W [] ∵
-        suffices ! _ (ends-at 𝓤 H A ended stayed (clauses 𝓤) W ((tt, tt, tt, args, mach), tt) v (F ys n x) (tt, (tt, (tt, tt))) (tt, (tt, (tt, tt)))) $
+        suffices ! _
+        (ends-at 𝓤 H A ended stayed (clauses 𝓤) W ((tt, tt, tt, args, mach), tt) v (F ys n x) (tt, (tt, (tt, tt))) (tt, (tt, (tt, tt)))) $
         says ! refl $ owned ! (row B) (Is (row B)) (makes B 𝓤 H A) (F ys n x) _ is $ nothing ! $
         owned ! (row Q) (Is (row Q)) (makes Q 𝓤 H A) x _ ix $ fjoin ! $
         owned ! usize (Is usize) (uint-makes 𝓤 H A W w64) n _ (refl, fits) $ fjoin ! $
         owned ! (row arrays) (Is (row arrays)) (makes arrays 𝓤 H A) ys _ ia $ fjoin ! $ nothing ! $ done !
 
+    abbrev to-f : Lft → ℕ → GName → OnRowWith S Q B F 𝓤 H A .Ghost
+    to-f κ b γ = to-row-with S Q B F 𝓤 H A W κ fullShare b 0 γ ys n x
+
     module _ (C : Calls 𝓤 H) (Λ : Loops 𝓤 H) (fm : FmC 𝓤 H (W .laws) C) (#f : Name) (known : Triple 𝓤 (C #f) (OnRowWith S Q B F 𝓤 H A))
         (small : T (ltb N (2 ^ 64))) (room : Room (row S) (length ys)) where
-      walk : ent 𝓤 (onEntry 𝓤 H A (ended .signature) tt tt args mach) (WpFn 𝓤 H C Λ (function #f) (arrays .val ys ∷ vint w64 n ∷ Q .val x ∷ []) Post)
+      walk :
+          ent 𝓤 (onEntry 𝓤 H A (ended .signature) tt tt args mach)
+          (WpFn 𝓤 H C Λ (function #f) (arrays .val ys ∷ vint w64 n ∷ Q .val x ∷ []) Post)
       walk =
-          qed W (raw (onEntry 𝓤 H A (ended .signature) tt tt args mach) ∷ []) ∵ keep ! [] $ enter ! C Λ (function #f) (arrays .val ys ∷ vint w64 n ∷ Q .val x ∷ []) _ $
+          qed W (raw (onEntry 𝓤 H A (ended .signature) tt tt args mach) ∷ []) ∵ keep ! [] $
+          enter ! C Λ (function #f) (arrays .val ys ∷ vint w64 n ∷ Q .val x ∷ []) _ $
           alloc1 ! (λ l₀. alloc1 ! (λ l₁. alloc1 ! (λ l₂. alloc1 ! (λ l₃. alloc1 ! (λ l₄. alloc1 ! (λ l₅. alloc1 ! (λ l₆.
           alloc0 ! $ params1 ! $
           pass1 ! (init ! 10 refl (arrays .typed 𝓤 H A W ys _ ia .0)) $ pass1 ! (init ! 8 refl (tt, record { fits = fits })) $
           pass1 ! (init ! 6 refl (Q .typed 𝓤 H A W x _ ix .0)) $ pass0 ! $
-          assigns ! (of-opd ! (load ! (from ! (stop !)) (look ! 10 refl))) (from ! (stop !)) (init ! 4 refl (arrays .typed 𝓤 H A W ys _ ia .0)) $
+          assigns ! (of-opd ! (load ! (from ! (stop !)) (look ! 10 refl))) (from ! (stop !))
+          (init ! 4 refl (arrays .typed 𝓤 H A W ys _ ia .0)) $
           assigns ! (addr ! (from ! (stop !))) (from ! (stop !)) (init ! 2 refl (tt, tt)) $
           assigns ! (agg ! (and-then ! (load ! (from ! (stop !)) (look ! 2 refl)) (and-then ! (lit ! small) (no-more !)))) (from ! (stop !))
           (init ! 0 refl (tt, (tt, (record { fits = ltb→lt N (2 ^ 64) small }, tt)))) $
@@ -141,15 +149,17 @@ module _ (S Q B : Kind) (N : ℕ) (F : List (S .X) → ℕ → Q .X → B .X) wh
           (later (some (λ (γ : GName). ‵ (Own S (α ∷ []) l₄ 0 γ ys) ⊛ ‵ (flent (α ∷ []) (Parts S N ys l₄ (length ys))))))
           (lends-shr-slice 𝓤 H A W (row S) (named 0) (α ∷ []) fullShare ys l₄ 0 room) $ await ! tt $
           pick ! (λ γ. split ! $ move ! (0 ∷ 2 ∷ []) $
-          use2 W (raw (OnRowWith S Q B F 𝓤 H A .pre (to-row-with S Q B F 𝓤 H A W (α ∷ []) fullShare l₄ 0 γ ys n x))) (goes-row-with S Q B F 𝓤 H A W (α ∷ []) fullShare l₄ 0 γ ys n x fits ix) $
+          use2 W (raw (OnRowWith S Q B F 𝓤 H A .pre (to-f (α ∷ []) l₄ γ)))
+          (goes-row-with S Q B F 𝓤 H A W (α ∷ []) fullShare l₄ 0 γ ys n x fits ix) $
           -- [what f asks; the lender's part; the locals, the last first, but for the slot's cell]
-          calls-at ! fm (OnRowWith S Q B F 𝓤 H A) known (to-row-with S Q B F 𝓤 H A W (α ∷ []) fullShare l₄ 0 γ ys n x)
+          calls-at ! fm (OnRowWith S Q B F 𝓤 H A) known (to-f (α ∷ []) l₄ γ)
           (and-then ! (load ! (from ! (stop !)) (look ! 2 refl)) (and-then ! (load ! (from ! (stop !)) (look ! 9 refl))
           (and-then ! (load ! (from ! (stop !)) (look ! 7 refl)) (no-more !)))) (λ v.
           use1 W
           (later (some (λ (r : B .X).
           ((‵ (flft (α ∷ []) fullShare) ⊛ ‵ ftrue) ⊛ ‵ (row B .own r (v ∷ [])))
-          ⊛ raw (ensured 𝓤 H A (row-with-ended S Q B F) (row-with-clauses S Q B F 𝓤) ((α ∷ []), tt) (lent S (α ∷ []) l₄ 0 γ ys, (n, (x, tt))) tt r))))
+          ⊛ raw
+          (ensured 𝓤 H A (row-with-ended S Q B F) (row-with-clauses S Q B F 𝓤) ((α ∷ []), tt) (lent S (α ∷ []) l₄ 0 γ ys, (n, (x, tt))) tt r))))
           (id⊢ 𝓤 _) $ await ! tt $ pick ! (λ r.
           split ! $ move ! (1 ∷ []) $ use1 W (raw (fact 𝓤 (r ≡ F ys n x))) (said-row-with S Q B F 𝓤 H A W (α ∷ []) fullShare l₄ 0 γ ys n x r) $
           heard ! (r ≡ F ys n x) (λ e. split ! $ split ! $ move ! (2 ∷ []) $
@@ -161,8 +171,10 @@ module _ (S Q B : Kind) (N : ℕ) (F : List (S .X) → ℕ → Q .X → B .X) wh
           move ! (1 ∷ []) $ lft-end ! tt $ move ! (0 ∷ 3 ∷ []) $ lent-back ! tt $
           use1 W (‵ (fat fullShare arr l₄ 0 (arrays .val ys))) (whole S N ys l₄ 𝓤 H A W len) $
           -- [the slot; what the result owns; true; the locals]
-          returns ! (look ! 14 refl) $ forget ! 0 refl $ forget ! 3 refl $ forget ! 5 refl $ forget ! 8 refl $ forget ! 10 refl $ forget ! 12 refl $ forget ! 14 refl $
-          move ! (14 ∷ 15 ∷ []) $ free1 ! $ move ! (12 ∷ 13 ∷ []) $ free1 ! $ move ! (10 ∷ 11 ∷ []) $ free1 ! $ move ! (8 ∷ 9 ∷ []) $ free1 ! $ move ! (0 ∷ 7 ∷ []) $ free1 ! $ move ! (4 ∷ 5 ∷ []) $ free1 ! $ move ! (2 ∷ 3 ∷ []) $ free1 ! $
+          returns ! (look ! 14 refl) $
+          forget ! 0 refl $ forget ! 3 refl $ forget ! 5 refl $ forget ! 8 refl $ forget ! 10 refl $ forget ! 12 refl $ forget ! 14 refl $
+          move ! (14 ∷ 15 ∷ []) $ free1 ! $ move ! (12 ∷ 13 ∷ []) $ free1 ! $ move ! (10 ∷ 11 ∷ []) $ free1 ! $
+          move ! (8 ∷ 9 ∷ []) $ free1 ! $ move ! (0 ∷ 7 ∷ []) $ free1 ! $ move ! (4 ∷ 5 ∷ []) $ free1 ! $ move ! (2 ∷ 3 ∷ []) $ free1 ! $
           free0 ! $ keep ! [] $ by ! (exits v is))))))))))))))
 
   module _ {M : Type 1} (𝓤 : URA M) (H : Heap 𝓤) (A : Atoms 𝓤) (W : Given 𝓤 H A) (𝓣 : Tables 𝓤 H) (#f : Name)
