@@ -17,27 +17,31 @@ fn table(all: AffinityInfo, last: AffinityInfo) -> [CpuPowerNode; CPUS] {
     with_cpu_record([node; CPUS], CpuNumber(15), set_affinity_info(node, last))
 }
 
-fn run_others_off() {
-    let cpus = table(AffinityInfo::Off, AffinityInfo::OnPending);
-    say(
-        b"CPU 15 is OnPending, so not all others are Off",
-        others_off_in(cpus, 15, 0) & (others_off_in(cpus, 16, 0) == false),
-    );
-    say(
-        b"it may ask itself; a seventeenth CPU is not Off",
-        others_off_in(cpus, 16, 15) & (others_off_in(cpus, 17, 15) == false),
-    );
+// All CPUs are Off but for the last, which is OnPending: are all but one of the first so many Off?
+fn others_off(count: u8, cpu: u8) -> bool {
+    others_off_in(
+        table(AffinityInfo::Off, AffinityInfo::OnPending),
+        count,
+        cpu,
+    )
 }
 
-fn run_all_on() {
-    let cpus = table(AffinityInfo::On, AffinityInfo::Off);
-    say(
-        b"CPU 15 is Off, so not all are On",
-        all_on_in(cpus, 15) & (all_on_in(cpus, 16) == false),
-    );
+// All CPUs are On but for the last, which is Off: are the first so many On?
+fn all_on(count: u8) -> bool {
+    all_on_in(table(AffinityInfo::On, AffinityInfo::Off), count)
 }
 
 pub(super) fn run() {
-    run_others_off();
-    run_all_on();
+    say(
+        b"CPU 15 is OnPending, so not all others are Off",
+        others_off(15, 0) & (others_off(16, 0) == false),
+    );
+    say(
+        b"it may ask itself; a seventeenth CPU is not Off",
+        others_off(16, 15) & (others_off(17, 15) == false),
+    );
+    say(
+        b"CPU 15 is Off, so not all are On",
+        all_on(15) & (all_on(16) == false),
+    );
 }
