@@ -8,7 +8,7 @@ use model::limits::CPUS;
 
 pub mod row;
 
-// The table is lent to the walk.
+// The table is lent to the walk, which counts in `usize`.
 fn lend_others_off(cpus: [CpuPowerNode; CPUS], count: usize, cpu: usize) -> bool
     ensures { λ r. ⌜ r ≡ othersOffIn cpus count cpu ⌝ }
 {
