@@ -67,7 +67,8 @@ fn request_row(bytes: &[u8], place: u16) -> [u8; REQUESTS]
     row
 }
 
-fn affinity_in(byte: u8) -> AffinityInfo
+// The affinity that a byte stands for.
+pub fn affinity_in(byte: u8) -> AffinityInfo
     ensures { λ r. ⌜ r ≡ affinityIn byte ⌝ }
 {
     if byte == 0 {
@@ -79,7 +80,8 @@ fn affinity_in(byte: u8) -> AffinityInfo
     AffinityInfo::OnPending
 }
 
-fn mode_in(byte: u8) -> SuspendMode
+// The mode that a byte stands for.
+pub fn mode_in(byte: u8) -> SuspendMode
     ensures { λ r. ⌜ r ≡ modeIn byte ⌝ }
 {
     if byte == 0 {
@@ -88,7 +90,8 @@ fn mode_in(byte: u8) -> SuspendMode
     SuspendMode::OsInitiated
 }
 
-fn entry_in(held: u8, address: u64, context: u64) -> Entry
+// The entry that three numbers stand for.
+pub fn entry_in(held: u8, address: u64, context: u64) -> Entry
     ensures { λ r. ⌜ r ≡ entryIn held address context ⌝ }
 {
     if held == 0 {

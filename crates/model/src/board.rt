@@ -19,8 +19,6 @@ pub struct Board {
 
 // The tree that a topology describes. In each row stands at a domain's number what there is of that domain.
 pub struct Tree {
-    pub domain_count: u8,
-    pub cpu_count: u8,
     // the domain above, or NO_PARENT
     pub parents: [u8; DOMAINS],
     // the span of the CPUs under it
@@ -29,6 +27,8 @@ pub struct Tree {
     // the span of the domains directly below it
     pub child_starts: [u8; DOMAINS],
     pub child_ends: [u8; DOMAINS],
+    pub domain_count: u8,
+    pub cpu_count: u8,
 }
 
 // The tree of a board, and at each CPU's number the domain directly above it. Beside a refusal all is 0.

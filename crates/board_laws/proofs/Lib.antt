@@ -1,0 +1,6 @@
+pub mod Bare
+pub mod Call
+pub mod Calls
+pub mod Keeps
+pub mod Promises
+pub mod Start

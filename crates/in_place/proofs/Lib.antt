@@ -1,0 +1,5 @@
+pub mod AnyCall
+pub mod Calls
+pub mod Decided
+pub mod Handed
+pub mod Parent
