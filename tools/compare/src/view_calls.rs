@@ -27,6 +27,8 @@ pub trait Calls: Send + Sync {
     fn mode(&self) -> SuspendMode;
     fn set_mode(&self, mode: SuspendMode);
     fn fields(&self) -> Fields;
+    /// The states along a CPU's path, as the Rust itself reads them: under its locks, 0 above the top level.
+    fn stored(&self, cpu: u8) -> [u8; 4];
     fn set_fields(&self, fields: &Fields);
 
     fn are_all_cpus_on(&self) -> bool;
@@ -103,6 +105,19 @@ where
     }
     fn fields(&self) -> Fields {
         self.power_domain_tree.fields()
+    }
+    fn stored(&self, cpu: u8) -> [u8; 4] {
+        let mut path = PsciCompositePowerState::<N, MAX, C, D, _, _>::RUN;
+        let mut node = self.power_domain_tree.locked_cpu_node(cpu);
+        self.power_domain_tree
+            .with_ancestors_locked(&mut node, |cpu, ancestors| {
+                path.set_local_states_from_nodes(cpu, &ancestors)
+            });
+        core::array::from_fn(|level| {
+            path.states
+                .get(level)
+                .map_or(0, |&state| state.into() as u8)
+        })
     }
     fn set_fields(&self, fields: &Fields) {
         self.power_domain_tree.set_fields(fields)
