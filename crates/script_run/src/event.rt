@@ -1,4 +1,4 @@
-// An event on a state that lies in rows: its call, and the states that its answer record shows. Nothing is copied but one CPU's record.
+// An event on a state that lies in rows: its call, and the states that its answer record shows. The state is not handed over.
 ghost use mathlib.Core.Bool.{cond};
 ghost use mathlib.Core.Path.{_≡_};
 ghost use lib.Dec.{ltb};
