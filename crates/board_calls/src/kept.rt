@@ -25,6 +25,7 @@ pub const BOARD: usize = 5;
 // A state for each level, the CPU's among them.
 pub const LEVELS: usize = HIGHEST_MAX as usize + 1;
 
+// The platform, of the board's row.
 pub fn platform_on(board: &[u8; BOARD]) -> Platform
     ensures { λ r. ⌜ r ≡ platformOn (now (board .entry)) ⌝ }
 {
@@ -35,18 +36,21 @@ pub fn platform_on(board: &[u8; BOARD]) -> Platform
     }
 }
 
+// How many CPUs there are.
 pub fn count_on(board: &[u8; BOARD]) -> u8
     ensures { λ r. ⌜ r ≡ countOn (now (board .entry)) ⌝ }
 {
     at(board, 3)
 }
 
+// The mode.
 pub fn mode_on(board: &[u8; BOARD]) -> SuspendMode
     ensures { λ r. ⌜ r ≡ modeOn (now (board .entry)) ⌝ }
 {
     mode_in(at(board, 4))
 }
 
+// The tree, but for what no call reads.
 pub fn tree_on(
     board: &[u8; BOARD],
     parents: &[u8; DOMAINS],
