@@ -1,3 +1,5 @@
+#![tactic(auto)]
+
 ghost use Rattle.std.specs.Prelude.{◌%◌, ◌≤◌, ◌++◌, ◌≡◌, length, drop};
 ghost use Rattle.model.specs.Numbers.{number_of};
 ghost use Rattle.script.specs.AnswerRecord.{answer_bytes, onto, room_code_of};

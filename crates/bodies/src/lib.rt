@@ -1,4 +1,6 @@
 // The calls' bodies on the parts of a state that they read: no test of the record, and no copy of the whole.
+#![tactic(auto)]
+
 ghost use Rattle.std.specs.Prelude.{◌≡◌};
 ghost use Rattle.model.specs.Steps.{boot_step, enter_step, finish_step, off_step};
 

@@ -1,1 +1,2 @@
 // Entering every CPU builds the spans of the tree: no code.
+#![tactic(auto)]

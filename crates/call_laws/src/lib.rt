@@ -1,1 +1,2 @@
 // What follows from the definitions of the calls: no code.
+#![tactic(auto)]

@@ -1,4 +1,6 @@
 // Runs the compiled calls on the bench board. Each line is a statement and whether it holds; the file `stdout` has them all at yes.
+#![tactic(auto)]
+
 mod bench;
 mod histories;
 mod write;

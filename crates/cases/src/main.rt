@@ -1,5 +1,7 @@
 // Runs the compiled code on what the scope and docs/DIFFERENCES.md say of answers, platforms, requests and records. Each line is a
 // statement and whether it holds; the file `stdout` has them all at yes.
+#![tactic(auto)]
+
 mod answers;
 mod domains;
 mod entries;

@@ -1,4 +1,6 @@
 // Composite states that are made, and what a search among their levels found.
+#![tactic(auto)]
+
 ghost use Rattle.std.specs.Prelude.{cond, ◌≡◌};
 ghost use Rattle.model.specs.Composite.{all_off, all_run, found_atb, found_of, off_at_level, set_state_at};
 ghost use Rattle.model.specs.Sound.{entry_dueb};

@@ -1,4 +1,6 @@
 // The states that the CPUs of a domain have asked for are brought together, level by level along a CPU's path.
+#![tactic(auto)]
+
 ghost use Rattle.std.specs.Prelude.{cond, ◌≡◌, get_or, set};
 ghost use Rattle.model.specs.Coordinate.{coordinate_of, coordinated};
 ghost use Rattle.model.specs.Minimum.{minimum_of};

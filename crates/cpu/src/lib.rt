@@ -1,4 +1,6 @@
 // A CPU's record, by value: the functions of the Rust's `CpuPowerNode`.
+#![tactic(auto)]
+
 ghost use Rattle.std.specs.Prelude.{◌≡◌};
 ghost use Rattle.model.specs.Cpu.{affinity_info_of, heldb, local_state_of, new_of, onb, pendingb, pop_entry_point_of};
 ghost use Rattle.model.specs.Cpu.{set_affinity_info_of, set_entry_point_of, set_local_state_of};

@@ -1,4 +1,6 @@
 // The setters of `setters` for a caller that holds the record by value: it is lent, and given back.
+#![tactic(auto)]
+
 ghost use Rattle.std.specs.Prelude.{◌≡◌};
 ghost use Rattle.model.specs.Cpu.{set_affinity_info_of, set_entry_point_of, set_local_state_of};
 

@@ -1,4 +1,6 @@
 // Tables of CPU records: a read and a store that no number can break.
+#![tactic(auto)]
+
 ghost use Rattle.std.specs.Prelude.{◌≡◌, get_or, set};
 ghost use Rattle.model.specs.State.{no_cpu};
 

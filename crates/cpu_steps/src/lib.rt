@@ -1,4 +1,6 @@
 // What a call makes of a CPU's record, by value.
+#![tactic(auto)]
+
 ghost use Rattle.std.specs.Prelude.{cond, ◌≡◌};
 ghost use Rattle.model.specs.Steps.{booted_of, finished_of, pended_of, suspended_of, turned_off};
 

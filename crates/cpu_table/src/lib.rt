@@ -1,4 +1,6 @@
 // The records of CPUs in rows of numbers that are lent: a call reads and stores one record, and copies no table.
+#![tactic(auto)]
+
 use model::limits::CPUS;
 
 pub mod cells;

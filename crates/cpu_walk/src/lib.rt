@@ -1,4 +1,6 @@
 // Tests over a row of CPU records, which is read where it lies: the last-CPU and the all-on test.
+#![tactic(auto)]
+
 ghost use Rattle.std.specs.Prelude.{◌≡◌};
 ghost use Rattle.model.specs.StateQuery.{all_on_in, others_off_in};
 

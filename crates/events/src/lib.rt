@@ -1,4 +1,6 @@
 // An event of a script: who makes its call, whom it names, and what it answers on a whole state.
+#![tactic(auto)]
+
 ghost use Rattle.std.specs.Prelude.{◌≡◌};
 ghost use Rattle.in_place.specs.Any.{caller_of};
 ghost use Rattle.model.specs.Calls.{call_of};

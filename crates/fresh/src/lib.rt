@@ -1,4 +1,6 @@
 // The state that a board starts in.
+#![tactic(auto)]
+
 mod off;
 
 ghost use Rattle.std.specs.Prelude.{◌≡◌};

@@ -1,1 +1,2 @@
 // Histories of calls, and what each CPU stands for after one. The definitions stand in specs/.
+#![tactic(auto)]

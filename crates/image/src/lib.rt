@@ -1,4 +1,6 @@
 // A state that stands in bytes, every field of it: docs/REFERENCE.md, 'A state in bytes'.
+#![tactic(auto)]
+
 ghost use Rattle.std.specs.Prelude.{◌+◌, ◌≤◌, ◌≡◌, length};
 ghost use Rattle.image.specs.Image.{affinity_in, board_in, cpu_in, cpus_in, domains_in, entry_in, mode_in, row_in, state_in};
 ghost use Rattle.image.specs.Image.{tree_in};

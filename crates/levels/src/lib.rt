@@ -1,4 +1,6 @@
 // Tables by level and CPU on lent rows: reads, stores, the minimum of a part of a level, and filled tables.
+#![tactic(auto)]
+
 ghost use Rattle.std.specs.Prelude.{◌+◌, ◌-◌, ◌≡◌, set};
 ghost use Rattle.model.specs.Minimum.{minimum_of};
 ghost use Rattle.model.specs.Span.{from_tob};

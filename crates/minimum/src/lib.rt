@@ -1,1 +1,2 @@
 // Laws on the minimum: no code.
+#![tactic(auto)]

@@ -6,7 +6,7 @@ use crate::states::CompositeState;
 
 // What a call tells the platform or the SPM, where the Rust calls into their traits. A CPU that goes down hands over the resolved
 // states, one that wakes the stored ones along its path.
-#[derive(Drop)]
+#[derive(Clone, Copy)]
 pub enum Notice {
     // an unused place, after the last notice
     Nothing,
@@ -33,7 +33,7 @@ pub enum Notice {
 }
 
 // The notices of a call, in order; no call has more.
-#[derive(Drop)]
+#[derive(Clone, Copy)]
 pub struct Notices {
     pub first: Notice,
     pub second: Notice,
@@ -43,7 +43,7 @@ pub struct Notices {
 }
 
 // Which wake a boot was: the Rust's `WakeUpReason`.
-#[derive(Drop)]
+#[derive(Clone, Copy)]
 pub enum WakeUpReason {
     Nothing,
     CpuOn,
@@ -51,7 +51,7 @@ pub enum WakeUpReason {
 }
 
 // What goes out with an answer.
-#[derive(Drop)]
+#[derive(Clone, Copy)]
 pub struct Outgoing {
     // the states that the platform is handed, RUN where it is handed none
     pub states: CompositeState,
@@ -64,7 +64,7 @@ pub struct Outgoing {
 }
 
 // What a call makes of its CPU's record and of the domains, and what goes out.
-#[derive(Drop)]
+#[derive(Clone, Copy)]
 pub struct Step {
     pub node: CpuPowerNode,
     pub domains: Domains,
@@ -72,7 +72,7 @@ pub struct Step {
 }
 
 // What a call answers. Beside a refusal stands the state as it was handed in, and nothing goes out.
-#[derive(Drop)]
+#[derive(Clone, Copy)]
 pub struct CallAnswer {
     pub code: Code,
     pub out: Outgoing,

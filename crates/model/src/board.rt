@@ -7,7 +7,7 @@ use crate::states::Platform;
 pub const NO_PARENT: u8 = 255;
 
 // What a board is given by.
-#[derive(Drop)]
+#[derive(Clone, Copy)]
 pub struct Board {
     pub platform: Platform,
     // the CPU that is up at the start
@@ -17,7 +17,7 @@ pub struct Board {
 }
 
 // The tree that a topology describes. In each row stands at a domain's number what there is of that domain.
-#[derive(Drop)]
+#[derive(Clone, Copy)]
 pub struct Tree {
     // the domain above, or NO_PARENT
     pub parents: [u8; DOMAINS],
@@ -32,7 +32,7 @@ pub struct Tree {
 }
 
 // The tree of a board, and at each CPU's number the domain directly above it. Beside a refusal all is 0.
-#[derive(Drop)]
+#[derive(Clone, Copy)]
 pub struct TreeAnswer {
     pub code: Code,
     pub tree: Tree,

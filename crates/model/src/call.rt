@@ -4,7 +4,7 @@ use crate::state::SuspendMode;
 use crate::states::CompositeState;
 
 // A call with what the platform answers to its questions. An answer is a byte that is read with its sign.
-#[derive(Drop)]
+#[derive(Clone, Copy)]
 pub enum Call {
     // caller, target, entry, whether its address is good, the platform's answer
     On(CpuNumber, CpuNumber, EntryPoint, bool, u8),

@@ -3,7 +3,7 @@ ghost use Rattle.model.specs.Numbers.{number_of, acceptedb, answer_of, usableb};
 
 // What a call answers. The first ten are DEN0022's, under the names of the Rust's `ErrorCode`; a platform's error is one of
 // them too. The rest are the port's own.
-#[derive(Drop)]
+#[derive(Clone, Copy)]
 pub enum Code {
     Accepted,
     NotSupported,

@@ -1,4 +1,6 @@
 // The types that the port is made of. What is right of them stands in specs/.
+#![tactic(auto)]
+
 pub mod answer;
 pub mod board;
 pub mod call;

@@ -6,21 +6,21 @@ use crate::sorts::DomainNumber;
 pub const NO_SUSPEND_STATE: u8 = 255;
 
 // What is above a power domain.
-#[derive(Drop)]
+#[derive(Clone, Copy)]
 pub enum Parent {
     Top,
     Under(DomainNumber),
 }
 
 // The numbers from `start` up to `end`, which is not counted: the Rust's `Range`.
-#[derive(Drop)]
+#[derive(Clone, Copy)]
 pub struct Span {
     pub start: u8,
     pub end: u8,
 }
 
 // A power domain: the Rust's `NonCpuPowerNode`. Its tables are as long as the limits; a span is the part that is in use.
-#[derive(Drop)]
+#[derive(Clone, Copy)]
 pub struct NonCpuPowerNode {
     pub parent: Parent,
     pub local_state: u8,
@@ -37,28 +37,28 @@ pub struct NonCpuPowerNode {
 }
 
 // What a change of a node record answers: where it is refused, the record as it was.
-#[derive(Drop)]
+#[derive(Clone, Copy)]
 pub struct NodeAnswer {
     pub code: Code,
     pub node: NonCpuPowerNode,
 }
 
 // The child that a query leaves out, where it looks at child copies at all.
-#[derive(Drop)]
+#[derive(Clone, Copy)]
 pub enum Child {
     Nothing,
     Given(DomainNumber),
 }
 
 // What a query for a state answers; beside a refusal stands RUN, so that who overlooks it keeps the domain up.
-#[derive(Drop)]
+#[derive(Clone, Copy)]
 pub struct StateAnswer {
     pub code: Code,
     pub state: u8,
 }
 
 // What a yes-or-no query answers; beside a refusal stands no.
-#[derive(Drop)]
+#[derive(Clone, Copy)]
 pub struct TestAnswer {
     pub code: Code,
     pub holds: bool,

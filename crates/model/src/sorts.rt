@@ -1,13 +1,13 @@
 // Three sorts where the Rust has one `NodeIndex` and bare level numbers: one given for another does not compile.
 
 // A CPU, numbered in the order of the topology.
-#[derive(Drop)]
+#[derive(Clone, Copy)]
 pub struct CpuNumber(pub u8);
 
 // A power domain above the CPUs, numbered breadth first from the top.
-#[derive(Drop)]
+#[derive(Clone, Copy)]
 pub struct DomainNumber(pub u8);
 
 // A level of the tree: 0 is the CPU, MAX the top.
-#[derive(Drop)]
+#[derive(Clone, Copy)]
 pub struct PowerLevel(pub u8);

@@ -4,14 +4,14 @@ use crate::cpu::CpuPowerNode;
 use crate::limits::{CPUS, DOMAINS, REQUESTS};
 
 // Who coordinates the power states: the Rust's `SuspendMode`.
-#[derive(Drop)]
+#[derive(Clone, Copy)]
 pub enum SuspendMode {
     PlatformCoordinated,
     OsInitiated,
 }
 
 // What changes of the power domains.
-#[derive(Drop)]
+#[derive(Clone, Copy)]
 pub struct Domains {
     // at each domain's number its state
     pub states: [u8; DOMAINS],
@@ -24,7 +24,7 @@ pub struct Domains {
 }
 
 // The whole state: what a call takes and gives back. Unused slots are 0.
-#[derive(Drop)]
+#[derive(Clone, Copy)]
 pub struct State {
     pub board: Board,
     pub tree: Tree,
@@ -34,7 +34,7 @@ pub struct State {
 }
 
 // What a start answers: beside a refusal stands a state of zeros, which is not sound.
-#[derive(Drop)]
+#[derive(Clone, Copy)]
 pub struct FreshAnswer {
     pub code: Code,
     pub state: State,

@@ -1,7 +1,7 @@
 use crate::sorts::PowerLevel;
 
 // The platform's part of a board.
-#[derive(Drop)]
+#[derive(Clone, Copy)]
 pub struct Platform {
     // MAX, the top level
     pub max: PowerLevel,
@@ -12,7 +12,7 @@ pub struct Platform {
 }
 
 // The kind of a state: the Rust's `PowerStateType`.
-#[derive(Drop)]
+#[derive(Clone, Copy)]
 pub enum Kind {
     Running,
     Retention,
@@ -20,7 +20,7 @@ pub enum Kind {
 }
 
 // A state for each level, from the CPU up: the Rust's `PsciCompositePowerState`.
-#[derive(Drop)]
+#[derive(Clone, Copy)]
 pub struct CompositeState {
     pub level0: u8,
     pub level1: u8,
@@ -29,7 +29,7 @@ pub struct CompositeState {
 }
 
 // What a search among the levels finds.
-#[derive(Drop)]
+#[derive(Clone, Copy)]
 pub enum FoundLevel {
     At(PowerLevel),
     Nothing,

@@ -1,4 +1,6 @@
 // What a power domain's record, sound or not, says of its other CPUs: the queries of the Rust's `NonCpuPowerNode`.
+#![tactic(auto)]
+
 ghost use Rattle.std.specs.Prelude.{◌≡◌};
 ghost use Rattle.model.specs.Node.{copy_at};
 ghost use Rattle.model.specs.Query.{asked_insideb, get_osi_minimal_allowed_state_without_core_of, is_last_cpu_to_idle_of};

@@ -1,4 +1,6 @@
 // Numbers in bytes, the lowest byte first; past the end a byte is 0.
+#![tactic(auto)]
+
 ghost use Rattle.std.specs.Prelude.{◌≡◌};
 ghost use Rattle.script.specs.Bytes.{number_at};
 

@@ -1,4 +1,6 @@
 // What goes out with an answer.
+#![tactic(auto)]
+
 ghost use Rattle.std.specs.Prelude.{◌≡◌, false, []};
 ghost use Rattle.model.specs.Answer.{not_entered_out, nothing_out, notices_of, outgoing, refused};
 ghost use Rattle.model.specs.declared.answer.WakeUpReason.TheVariants as wake;

@@ -1,4 +1,6 @@
 // What `scriptrun` prints for an input, whole.
+#![tactic(auto)]
+
 ghost use Rattle.std.specs.Prelude.{◌≤◌, ◌≡◌, drop, length};
 ghost use Rattle.std.proofs.lemmas.List.Edits.{sets};
 ghost use Rattle.script.specs.Printed.{answer_room, event_limit, printed_of, run_text, text_most};

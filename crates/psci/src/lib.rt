@@ -1,5 +1,7 @@
 // The calls, as methods by value on the whole state: each gives back its code, what goes out, and the next state. Each tests the state
 // first; what it does with a sound one is in `sound_calls`.
+#![tactic(auto)]
+
 mod down;
 mod on;
 mod wake;

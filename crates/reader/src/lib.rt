@@ -1,4 +1,6 @@
 // Reads the records of a script: the board, and then one event after another.
+#![tactic(auto)]
+
 ghost use Rattle.std.specs.Prelude.{◌≡◌};
 ghost use Rattle.script.specs.Record.{read_of, record_of};
 

@@ -1,5 +1,7 @@
 // Runs the compiled test of a state record, and the queries, on records of the bench board in which one thing is changed. Each line
 // is a statement and whether it holds; the file `stdout` has them all at yes.
+#![tactic(auto)]
+
 mod base;
 mod cpus;
 mod domains;

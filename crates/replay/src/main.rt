@@ -21,6 +21,8 @@
 //      20      2   run: the room for answer records
 //      22      4   run: how many events are taken
 //      26      1   run: the byte of the closing number
+#![tactic(auto)]
+
 mod bytes;
 mod case;
 mod expected;

@@ -1,4 +1,6 @@
 // A whole script: a board's record, and then its events.
+#![tactic(auto)]
+
 ghost use Rattle.std.specs.Prelude.{[], ◌∷◌, ◌≡◌, length};
 ghost use Rattle.script_calls.specs.Script.{script_of};
 ghost use Rattle.model.specs.Numbers.{number_of};

@@ -1,1 +1,2 @@
 // What follows from the definitions of scripts; no code.
+#![tactic(auto)]

@@ -1,4 +1,6 @@
 // A script: its start on a fresh board, and the run of its events.
+#![tactic(auto)]
+
 mod event;
 
 ghost use Rattle.std.specs.Prelude.{◌≡◌, length};

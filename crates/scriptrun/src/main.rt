@@ -1,4 +1,6 @@
 // Runs the script on standard input, and prints what each of its events gives.
+#![tactic(auto)]
+
 use printer::print_script;
 use script::limits::{INPUT, TEXT};
 

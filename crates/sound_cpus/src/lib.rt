@@ -1,4 +1,6 @@
 // The part of the test of a state record that looks at CPUs.
+#![tactic(auto)]
+
 ghost use Rattle.std.specs.Prelude.{cond, ◌≡◌, eqb, leb, ltb, suc, ◌<◌};
 ghost use Rattle.model.specs.declared.cpu.AffinityInfo.TheVariants as affinity;
 ghost use Rattle.model.specs.Below.{every};

@@ -1,4 +1,6 @@
 // The part of the test of a state record that looks at domains.
+#![tactic(auto)]
+
 ghost use Rattle.std.specs.Prelude.{cond, ◌&&◌, ◌≡◌, eqb, get_or};
 ghost use Rattle.model.specs.Below.{every};
 ghost use Rattle.model.specs.Limits.{domain_limit};

@@ -1,1 +1,2 @@
 // Theorems on sound state records: no code.
+#![tactic(auto)]

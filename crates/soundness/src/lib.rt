@@ -1,4 +1,6 @@
 // The test of a whole state record, sound or not, that every call begins with.
+#![tactic(auto)]
+
 mod trees;
 
 ghost use Rattle.std.specs.Prelude.{◌≡◌, take, suc};

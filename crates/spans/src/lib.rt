@@ -1,4 +1,6 @@
 // Spans of numbers, each against the length of its table.
+#![tactic(auto)]
+
 ghost use Rattle.std.specs.Prelude.{◌≡◌};
 ghost use Rattle.model.specs.Span.{emptyb, growsb, holdsb, withinb};
 

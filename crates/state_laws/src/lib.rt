@@ -1,1 +1,2 @@
 // Laws on kinds and on suspend requests. There is no code here: see proofs/.
+#![tactic(auto)]

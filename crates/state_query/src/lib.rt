@@ -1,4 +1,6 @@
 // What a state says of its CPUs and domains: the queries of the Rust's `PowerDomainTree`, by value.
+#![tactic(auto)]
+
 ghost use Rattle.std.specs.Prelude.{◌≡◌};
 ghost use Rattle.model.specs.StateQuery.{are_all_cpus_on_of, is_last_cpu_of, is_last_cpu_to_idle_at_power_level_of};
 

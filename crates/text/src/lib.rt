@@ -1,4 +1,6 @@
 // The text that `scriptrun` prints.
+#![tactic(auto)]
+
 ghost use Rattle.std.specs.Prelude.{◌++◌};
 ghost use Rattle.model.specs.State.{max_at};
 ghost use Rattle.script.specs.Printed.{answer_lines, board_line, end_line, refused_line};

@@ -1,4 +1,6 @@
 // The topology of a board: is it acceptable, and the tree that it describes (the Rust's `PowerDomainTree::new`).
+#![tactic(auto)]
+
 ghost use Rattle.std.specs.Prelude.{◌≡◌};
 ghost use Rattle.model.specs.Tree.{no_tree, tree_answer_of, tree_of};
 ghost use Rattle.topology_laws.proofs.Accepted.{Accepted};

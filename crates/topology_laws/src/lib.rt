@@ -1,1 +1,2 @@
 // Laws on tables and topologies: no code.
+#![tactic(auto)]

@@ -1,5 +1,7 @@
 // Answers requests: from standard input one after another, to standard output a reply for each. docs/REFERENCE.md, 'A request
 // and its reply', has their bytes.
+#![tactic(auto)]
+
 use libc::{STDIN_FILENO, STDOUT_FILENO};
 use traced::{REPLY, REQUEST, answer, write_reply};
 

@@ -1,5 +1,7 @@
 // What an event did, in bytes: the answer and all that goes out, the whole state after it, and that state's queries.
 // docs/REFERENCE.md, 'A request and its reply'.
+#![tactic(auto)]
+
 ghost use Rattle.std.specs.Prelude.{◌≡◌};
 ghost use Rattle.traced.specs.Reply.{answer_to, board, event_of, going_out, power, queries};
 ghost use Rattle.traced.specs.Reply.{reply_onto, started_of, tables_onto, tree};

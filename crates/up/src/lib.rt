@@ -1,4 +1,6 @@
 // The domains above a CPU that comes up.
+#![tactic(auto)]
+
 ghost use Rattle.std.specs.Prelude.{◌≡◌};
 ghost use Rattle.model.specs.Path.{set_running_of};
 
