@@ -5,6 +5,7 @@ ghost use Rattle.model.specs.Span.{from_tob, from_to_withoutb};
 use crate::cells::at;
 
 // The lesser of two states.
+#[tactic(auto, unfolding(model::specs::Minimum::lesser_of))]
 pub fn lesser(x: u8, y: u8) -> u8
     ensures { result ≡ lesser_of x y }
 {
@@ -25,6 +26,7 @@ pub fn lesser_if(counts: bool, x: u8, y: u8) -> u8
 }
 
 // The shallowest state from start on and before end, but for the state at one number; OFF where there is none.
+#[tactic(auto, using(minimum::proofs::Span::minimum_before, minimum::proofs::Span::minimum_turn, minimum::proofs::Span::minimum_past))]
 pub fn minimum_without(row: &[u8], start: usize, end: usize, one: usize, off: u8) -> u8
     ensures { result ≡ minimum_of end (from_to_withoutb start end one) (λ i. get_or row.now i 0) off }
 {
@@ -36,6 +38,7 @@ pub fn minimum_without(row: &[u8], start: usize, end: usize, one: usize, off: u8
 }
 
 // The shallowest state from start on and before end; OFF where there is none. (To leave out the end leaves out none.)
+#[tactic(auto, using(minimum::proofs::Span::minimum_whole))]
 pub fn minimum(row: &[u8], start: usize, end: usize, off: u8) -> u8
     ensures { result ≡ minimum_of end (from_tob start end) (λ i. get_or row.now i 0) off }
 {

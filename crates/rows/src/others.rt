@@ -29,6 +29,7 @@ pub fn beside(request: u8, suspend: u8) -> bool
 }
 
 // The shallowest that the CPUs from start on and before end allow, but for one of them; OFF where there is none.
+#[tactic(auto, using(minimum::proofs::Span::minimum_before, minimum::proofs::Span::minimum_turn, minimum::proofs::Span::minimum_past))]
 pub fn allowed_without<'a>(
     requests: &'a [u8],
     suspends: &'a [u8],
