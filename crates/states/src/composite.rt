@@ -45,6 +45,7 @@ fn level_in_range(p: Platform, c: CompositeState, level: PowerLevel) -> bool
 }
 
 // Are the states in range at every level?
+#[tactic(auto, unfolding(model::specs::Below::every))]
 pub fn states_in_range(p: Platform, c: CompositeState) -> bool
     ensures { result ≡ states_in_rangeb p c }
 {

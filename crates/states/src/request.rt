@@ -11,6 +11,7 @@ use model::sorts::PowerLevel;
 use model::states::{CompositeState, FoundLevel, Platform};
 
 // The highest level at which the flag is set.
+#[tactic(auto, unfolding(model::specs::Below::highest))]
 fn highest_set(at0: bool, at1: bool, at2: bool, at3: bool) -> FoundLevel
     ensures { result ≡ highest levels (λ l. get_or (at0 ∷ at1 ∷ at2 ∷ at3 ∷ []) l false) }
 {
@@ -37,6 +38,7 @@ fn non_run_at(p: Platform, c: CompositeState, level: PowerLevel) -> bool
 }
 
 // The highest level that is not RUN: a suspend's highest affected level.
+#[tactic(auto, unfolding(model::specs::Below::highest))]
 pub fn find_highest_non_run_level(p: Platform, c: CompositeState) -> FoundLevel
     ensures { result ≡ find_highest_non_run_level_of p c }
 {
@@ -56,6 +58,7 @@ fn power_down_at(p: Platform, c: CompositeState, level: PowerLevel) -> bool
 }
 
 // The highest level that is power-down.
+#[tactic(auto, unfolding(model::specs::Below::highest))]
 pub fn find_highest_power_down_level(p: Platform, c: CompositeState) -> FoundLevel
     ensures { result ≡ find_highest_power_down_level_of p c }
 {
@@ -79,6 +82,7 @@ fn no_deeper(p: Platform, c: CompositeState, above: PowerLevel, below: PowerLeve
 }
 
 // Is this a valid suspend request: states in range, level 0 not RUN, no level's kind deeper than the kind below it?
+#[tactic(auto, unfolding(model::specs::Below::every, model::specs::Composite::is_valid_suspend_requestb))]
 pub fn is_valid_suspend_request(p: Platform, c: CompositeState) -> bool
     ensures { result ≡ is_valid_suspend_requestb p c }
 {
