@@ -7,6 +7,7 @@ ghost use Rattle.script.specs.Bytes.{number_at};
 use rows::cells;
 
 // The number that the two bytes at a place are.
+#[tactic(auto, using(script_laws::proofs::Bytes::number_past, script_laws::proofs::Bytes::number_two))]
 pub fn read_u16(s: &[u8], at: usize) -> u16
     ensures { result ≡ number_at 2 s.now at }
 {
@@ -19,6 +20,7 @@ pub fn read_u16(s: &[u8], at: usize) -> u16
 }
 
 // The number that the four bytes at a place are.
+#[tactic(auto, using(script_laws::proofs::Bytes::number_past, script_laws::proofs::Bytes::number_four))]
 pub fn read_u32(s: &[u8], at: usize) -> u32
     ensures { result ≡ number_at 4 s.now at }
 {
@@ -31,6 +33,7 @@ pub fn read_u32(s: &[u8], at: usize) -> u32
 }
 
 // The number that the eight bytes at a place are.
+#[tactic(auto, using(script_laws::proofs::Bytes::number_past, script_laws::proofs::Bytes::number_eight))]
 pub fn read_u64(s: &[u8], at: usize) -> u64
     ensures { result ≡ number_at 8 s.now at }
 {
