@@ -1,6 +1,8 @@
 // Rows of bytes, so that no number can break a read or a store.
-use libc::STDIN_FILENO;
 use rows::cells::{at, put};
+
+// The standard input's number.
+pub(super) const STDIN: i32 = 0;
 
 // A part of a row; where there is no such part, it is empty.
 pub(super) fn part(row: &[u8], from: usize, to: usize) -> &[u8] {
@@ -61,5 +63,5 @@ pub(super) fn read_front(row: &mut [u8], n: usize) -> bool {
     if row.len() < n {
         return false;
     }
-    io::read_full(STDIN_FILENO, &mut row[..n]) == n
+    io::read_full(STDIN, &mut row[..n]) == n
 }

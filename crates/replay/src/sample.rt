@@ -13,7 +13,7 @@
 use crate::bytes::{fill, lay, part, read_front, same};
 use crate::write::{number, text};
 use fresh::no_state;
-use libc::STDIN_FILENO;
+use crate::bytes::STDIN;
 use model::answer::CallAnswer;
 use model::state::State;
 use numbers::{read_u16, read_u32};
@@ -107,7 +107,7 @@ fn play(p: Progress, head: &[u8], runs: &[u8], reply: &mut [u8]) -> Progress {
 fn next(p: Progress, reply: &mut [u8]) -> Progress {
     let mut head = [0u8; ITEM];
     let mut runs = io::buffer();
-    if io::read_full(STDIN_FILENO, &mut head) < ITEM {
+    if io::read_full(STDIN, &mut head) < ITEM {
         return p;
     }
     let n = read_u16(&head, 31) as usize;
@@ -132,7 +132,7 @@ fn items(count: u32, reply: &mut [u8]) -> Progress {
 // Plays the sample, and says how many replies there are.
 pub(super) fn replay() {
     let mut size = [0u8; 4];
-    io::read_full(STDIN_FILENO, &mut size);
+    io::read_full(STDIN, &mut size);
     let count = read_u32(&size, 0);
     let mut reply = [0u8; REPLY];
     let p = items(count, &mut reply);
