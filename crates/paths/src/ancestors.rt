@@ -15,6 +15,7 @@ pub fn parent_byte(parents: &[u8], domain: u8) -> u8
 }
 
 // The domain so many levels above a domain.
+#[tactic(auto, using(crate::proofs::Path::above_none, crate::proofs::Path::above_turn))]
 pub fn above(parents: &[u8], domain: DomainNumber, n: u8) -> DomainNumber
     ensures { result ≡ record { 0 = above_of parents.now domain.0 n } }
 {
@@ -43,6 +44,7 @@ pub fn on_path(parents: &[u8], first: DomainNumber, level: PowerLevel) -> Domain
 }
 
 // The level of a domain: MAX at the top, and one below its parent's elsewhere.
+#[tactic(auto, using(crate::proofs::Path::level_whole, crate::proofs::Path::level_top, crate::proofs::Path::level_under, crate::proofs::Path::level_none))]
 pub fn level_of(parents: &[u8], max: PowerLevel, domain: DomainNumber) -> PowerLevel
     ensures { result ≡ record { 0 = level_at parents.now max.0 domain.0 } }
 {

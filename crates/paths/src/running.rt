@@ -40,6 +40,7 @@ fn run_level(
 }
 
 // Marks a CPU as running in all the domains above it, and those domains as running: the Rust's `set_running`.
+#[tactic(auto, using(crate::proofs::Path::above_none, crate::proofs::Path::above_turn, crate::proofs::Path::running_none, crate::proofs::Path::running_turn))]
 pub fn set_running(
     parents: &[u8; DOMAINS],
     states: &mut [u8; DOMAINS],
