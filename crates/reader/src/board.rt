@@ -19,6 +19,7 @@ fn is_board(input: &[u8]) -> bool
 }
 
 // The board: MAX, states, first power-down state, primary, topology length, topology; a missing one is 108.
+#[tactic(auto, unfolding(script::specs::Record::read_board_of))]
 pub fn read_board(input: &[u8]) -> ReadBoard
     ensures { result ≡ read_board_of input.now }
 {

@@ -20,6 +20,7 @@ fn event_if(good: bool, call: Call, rest: &[u8]) -> Read
 }
 
 // On: caller, target, address, context, address-good, answer.
+#[tactic(auto, unfolding(script::specs::Record::on_in))]
 pub fn on_in(rest: &[u8]) -> Read
     ensures { result ≡ on_in rest.now }
 {
@@ -36,6 +37,7 @@ pub fn on_in(rest: &[u8]) -> Read
 }
 
 // Off: caller, early answer.
+#[tactic(auto, unfolding(script::specs::Record::off_in))]
 pub fn off_in(rest: &[u8]) -> Read
     ensures { result ≡ off_in rest.now }
 {
@@ -45,6 +47,7 @@ pub fn off_in(rest: &[u8]) -> Read
 }
 
 // Suspend: caller, pending, address, context, four states.
+#[tactic(auto, unfolding(script::specs::Record::suspend_in))]
 pub fn suspend_in(rest: &[u8], max: PowerLevel) -> Read
     ensures { result ≡ suspend_in max.0 rest.now }
 {
@@ -55,6 +58,7 @@ pub fn suspend_in(rest: &[u8], max: PowerLevel) -> Read
 }
 
 // Finish: CPU.
+#[tactic(auto, unfolding(script::specs::Record::finish_in))]
 pub fn finish_in(rest: &[u8]) -> Read
     ensures { result ≡ finish_in rest.now }
 {
@@ -63,6 +67,7 @@ pub fn finish_in(rest: &[u8]) -> Read
 }
 
 // Boot: CPU.
+#[tactic(auto, unfolding(script::specs::Record::boot_in))]
 pub fn boot_in(rest: &[u8]) -> Read
     ensures { result ≡ boot_in rest.now }
 {
@@ -71,6 +76,7 @@ pub fn boot_in(rest: &[u8]) -> Read
 }
 
 // System suspend: caller, feature, pending, address-good, address, context, four states.
+#[tactic(auto, unfolding(script::specs::Record::system_suspend_in))]
 pub fn system_suspend_in(rest: &[u8], max: PowerLevel) -> Read
     ensures { result ≡ system_suspend_in max.0 rest.now }
 {
@@ -90,6 +96,7 @@ pub fn system_suspend_in(rest: &[u8], max: PowerLevel) -> Read
 }
 
 // Mode: caller, feature, the mode.
+#[tactic(auto, unfolding(script::specs::Record::set_mode_in))]
 pub fn set_mode_in(rest: &[u8]) -> Read
     ensures { result ≡ set_mode_in rest.now }
 {

@@ -87,6 +87,7 @@ fn zero_at(max: PowerLevel, level: PowerLevel, state: u8) -> bool
 }
 
 // Are the states above MAX 0?
+#[tactic(auto, unfolding(model::specs::Below::every))]
 pub fn zero_above(max: PowerLevel, c: CompositeState) -> bool
     ensures { result ≡ zero_aboveb max.0 c }
 {

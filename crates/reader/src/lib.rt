@@ -16,6 +16,7 @@ mod events;
 mod fields;
 
 // A record by its kind and the length that this kind has; anything else is 108, a second board too.
+#[tactic(auto, unfolding(script::specs::Record::record_of))]
 fn record_in(rest: &[u8], max: PowerLevel) -> Read
     ensures { result ≡ record_of max.0 rest.now }
 {
@@ -46,6 +47,7 @@ fn record_in(rest: &[u8], max: PowerLevel) -> Read
 }
 
 // The next event in what is left of the input: the clean end, 108 for a cut record, and else as the record says.
+#[tactic(auto, unfolding(script::specs::Record::read_of))]
 pub fn read_record(rest: &[u8], max: PowerLevel) -> Read
     ensures { result ≡ read_of max.0 rest.now }
 {
