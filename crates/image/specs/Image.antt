@@ -1,5 +1,5 @@
 -- docs/REFERENCE.md, 'A state in bytes'.
-use Rattle.std.specs.Prelude.{ℕ, ◌+◌, ◌*◌, cond, List, eqb, get_or}
+use Rattle.std.specs.Prelude.{ℕ, ◌+◌, ◌*◌, cond, List, eqb}
 use Rattle.model.specs.Limits.{cpu_limit, domain_limit, entry_limit, request_slots}
 use Rattle.model.specs.State.{no_cpu}
 use Rattle.model.specs.Table.{table_of}

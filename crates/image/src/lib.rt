@@ -156,6 +156,7 @@ fn domains_in(bytes: &[u8]) -> Domains
 }
 
 // The state that bytes stand for, sound or not.
+#[tactic(auto, unfolding(crate::specs::Image::state_in))]
 pub fn state_in(bytes: &[u8]) -> State
     ensures { result ≡ state_in bytes.now }
 {
