@@ -46,6 +46,7 @@ fn level_is(p: Platform, c: CompositeState, level: PowerLevel, state: u8) -> boo
 }
 
 // Have the levels up to MAX this state, and those above it 0?
+#[tactic(auto, unfolding(model::specs::Below::every))]
 fn levels_are(p: Platform, c: CompositeState, state: u8) -> bool
     ensures { result ≡ levels_areb p c state }
 {
@@ -89,6 +90,7 @@ fn suspend_is(suspends: &[u8], below: u8, n: u8, cpu: CpuNumber) -> bool
 }
 
 // Has a CPU no suspend state up to level n, and 0 above?
+#[tactic(auto, unfolding(model::specs::Below::every))]
 fn suspends_are(suspends: &[u8], n: u8, cpu: CpuNumber) -> bool
     ensures { result ≡ suspends_areb suspends.now n cpu.0 }
 {
@@ -129,6 +131,7 @@ fn asked_in(requests: &[u8], c: CpuPowerNode, cpu: CpuNumber) -> CompositeState
 }
 
 // Is the slot of a CPU as it must be, where there is one and where there is none?
+#[tactic(auto, unfolding(model::specs::SoundTest::cpu_slot_isb))]
 fn cpu_slot(
     used: bool,
     p: Platform,
@@ -147,6 +150,7 @@ fn cpu_slot(
 }
 
 // Is every CPU's slot as it must be?
+#[tactic(auto, unfolding(model::specs::Below::every, model::specs::SoundTest::cpu_slotb))]
 pub fn cpus_sound(
     p: Platform,
     count: u8,
