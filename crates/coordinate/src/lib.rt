@@ -93,7 +93,7 @@ pub fn coordinate_state(
 }
 
 // What coordinate makes of the domains, and the states that it resolved.
-#[derive(Drop)]
+#[derive(Clone, Copy)]
 pub struct LoweredDomains {
     pub domains: Domains,
     pub resolved: CompositeState,
