@@ -1,0 +1,16 @@
+use Rattle.std.proofs.Common.{arith}
+use Rattle.script.specs.Printed.{states_text}
+use Rattle.text.proofs.Records.{states_next}
+use Rattle.text.proofs.Puts.{none, then, alike}
+use Rattle.text.proofs.lines.put_states.Goals as goal
+
+pub loop-level-init : goal.loop-level-init
+unfolding states_text
+loop-level-init c = (omega arith, none _ _)
+
+pub loop-level-preserved : goal.loop-level-preserved
+loop-level-preserved c = (
+  omega arith,
+  alike (then c.loop-level.invariant.1 c.put_state-here.ensures.put)
+      (states_next c.args.answers.now c.loop-level.level c.args.place c.at.ensures),
+)
