@@ -67,6 +67,7 @@ fn copies_without(node: NonCpuPowerNode, span: Span, one: DomainNumber, state: u
 }
 
 // The shallowest of a state and of the copies of the children other than the one given; where none is given, of no child.
+#[tactic(auto, unfolding(model::specs::Minimum::minimum_of))]
 fn with_children(node: NonCpuPowerNode, child: Child, state: u8) -> u8
     ensures { result ≡ with_children_of node child state }
 {
@@ -102,6 +103,7 @@ fn state_answer(inside: bool, none: bool, state: u8) -> StateAnswer
 }
 
 // The state that the domain may take without regard to one CPU, and to the child on that CPU's path where it is given.
+#[tactic(auto, unfolding(model::specs::Query::get_osi_minimal_allowed_state_without_core_of))]
 pub fn get_osi_minimal_allowed_state_without_core(
     node: NonCpuPowerNode,
     cpu: CpuNumber,
