@@ -27,6 +27,7 @@ fn described(p: Platform, primary: CpuNumber, row: &[u8], domains: u8) -> TreeAn
 }
 
 // Is the state record sound?
+#[tactic(auto, unfolding(model::specs::SoundTest::soundb))]
 pub fn sound(s: State) -> bool
     ensures { result ≡ soundb s }
 {

@@ -6,6 +6,7 @@ use model::limits::{DOMAINS, ENTRIES};
 use rows::cells::at;
 
 // Have two rows the same byte at each domain's number?
+#[tactic(auto, unfolding(model::specs::Below::every))]
 fn same_row<'a>(a: &'a [u8], b: &'a [u8]) -> bool
     ensures { result ≡ same_rowb a.now b.now }
 {
@@ -45,6 +46,7 @@ fn zero_if(must: bool, byte: u8) -> bool
 }
 
 // Is the row 0 past the topology's last entry?
+#[tactic(auto, unfolding(model::specs::Below::every))]
 pub(super) fn entries_end(row: &[u8], last: u8) -> bool
     ensures { result ≡ entries_endb row.now last }
 {
