@@ -15,6 +15,7 @@ mod bodies;
 pub mod nodes;
 
 // Is the CPU the last to idle at a level? 102 for a state that is not sound, 103 for no CPU, 109 for a level above MAX.
+#[tactic(auto, unfolding(model::specs::StateQuery::is_last_cpu_to_idle_at_power_level_of))]
 pub fn is_last_cpu_to_idle_at_power_level(s: State, cpu: CpuNumber, level: PowerLevel) -> TestAnswer
     ensures { result ≡ is_last_cpu_to_idle_at_power_level_of s cpu level }
 {
@@ -28,6 +29,7 @@ pub fn is_last_cpu_to_idle_at_power_level(s: State, cpu: CpuNumber, level: Power
 }
 
 // Is every CPU but this one Off? 102 for a state that is not sound, 103 for no CPU, 104 for a CPU that is not On.
+#[tactic(auto, unfolding(model::specs::StateQuery::is_last_cpu_of))]
 pub fn is_last_cpu(s: State, cpu: CpuNumber) -> TestAnswer
     ensures { result ≡ is_last_cpu_of s cpu }
 {
@@ -41,6 +43,7 @@ pub fn is_last_cpu(s: State, cpu: CpuNumber) -> TestAnswer
 }
 
 // Is every CPU On? 102 for a state that is not sound.
+#[tactic(auto, unfolding(model::specs::StateQuery::are_all_cpus_on_of))]
 pub fn are_all_cpus_on(s: State) -> TestAnswer
     ensures { result ≡ are_all_cpus_on_of s }
 {
