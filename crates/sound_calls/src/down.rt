@@ -17,6 +17,7 @@ use model::states::CompositeState;
 use outgoing::{not_entered_out, nothing_out};
 
 // CPU_OFF: the caller turns itself off. The platform is asked early whether it may.
+#[tactic(auto, unfolding(model::specs::Answer::decided, model::specs::Calls::cpu_off_of))]
 pub fn cpu_off(mut state: State, caller: CpuNumber, early_answer: u8) -> CallAnswer
     ensures { result ≡ cpu_off_of state caller early_answer }
 {
@@ -52,6 +53,7 @@ pub fn cpu_off(mut state: State, caller: CpuNumber, early_answer: u8) -> CallAns
 }
 
 // CPU_SUSPEND up to its wait.
+#[tactic(auto, unfolding(model::specs::Answer::decided, model::specs::Calls::cpu_suspend_start_of))]
 pub fn cpu_suspend_start(
     mut state: State,
     caller: CpuNumber,
@@ -99,6 +101,7 @@ pub fn cpu_suspend_start(
 }
 
 // SYSTEM_SUSPEND up to its wait: the last CPU that is on suspends to the states that the platform has for this.
+#[tactic(auto, unfolding(model::specs::Answer::decided, model::specs::Calls::system_suspend_of))]
 pub fn system_suspend(
     mut state: State,
     caller: CpuNumber,

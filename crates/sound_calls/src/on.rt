@@ -16,6 +16,7 @@ use model::state::{State, SuspendMode};
 use outgoing::nothing_out;
 
 // CPU_ON: turns a CPU on. The platform says whether the address is good, and what comes of its own part.
+#[tactic(auto, unfolding(model::specs::Answer::decided, model::specs::Calls::cpu_on_of))]
 pub fn cpu_on(
     mut state: State,
     caller: CpuNumber,
@@ -50,6 +51,7 @@ pub fn cpu_on(
 }
 
 // PSCI_SET_SUSPEND_MODE: sets who coordinates the power states.
+#[tactic(auto, unfolding(model::specs::Answer::decided, model::specs::Calls::set_suspend_mode_of))]
 pub fn set_suspend_mode(
     state: State,
     caller: CpuNumber,

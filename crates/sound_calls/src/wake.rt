@@ -13,6 +13,7 @@ use model::state::State;
 use outgoing::nothing_out;
 
 // The rest of a suspend after its wait.
+#[tactic(auto, unfolding(model::specs::Answer::decided, model::specs::Calls::cpu_suspend_finish_of))]
 pub fn cpu_suspend_finish(mut state: State, cpu: CpuNumber) -> CallAnswer
     ensures { result ≡ cpu_suspend_finish_of state cpu }
 {
@@ -44,6 +45,7 @@ pub fn cpu_suspend_finish(mut state: State, cpu: CpuNumber) -> CallAnswer
 }
 
 // A CPU that is powered up: after CPU_ON, or from a suspend that lost its state.
+#[tactic(auto, unfolding(model::specs::Answer::decided, model::specs::Calls::handle_cpu_boot_of))]
 pub fn handle_cpu_boot(mut state: State, cpu: CpuNumber) -> CallAnswer
     ensures { result ≡ handle_cpu_boot_of state cpu }
 {
