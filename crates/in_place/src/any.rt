@@ -16,7 +16,7 @@ use model::state::SuspendMode;
 use model::states::Platform;
 
 // What any call gives: its code, the record of the CPU that it names, and the mode.
-#[derive(Drop)]
+#[derive(Clone, Copy)]
 pub struct Moved {
     pub code: Code,
     pub node: CpuPowerNode,

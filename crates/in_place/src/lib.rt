@@ -12,7 +12,7 @@ use model::cpu::CpuPowerNode;
 use model::states::CompositeState;
 
 // What a call gives: its code, the record of the CPU that it names, and the states that the platform is handed, RUN where it is handed none.
-#[derive(Drop)]
+#[derive(Clone, Copy)]
 pub struct Stepped {
     pub code: Code,
     pub node: CpuPowerNode,
