@@ -1,2 +1,3 @@
 pub mod Carried
 pub mod Taken
+pub mod Read
