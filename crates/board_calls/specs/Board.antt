@@ -1,5 +1,5 @@
 -- A board that lies in rows: what the calls read of it, and what they make of it.
-use Rattle.std.specs.Prelude.{ℕ, Bool, cond, List, [], ◌∷◌, ℤ, get_or, set}
+use Rattle.std.specs.Prelude.{ℕ, cond, List, [], ◌∷◌, ℤ, get_or, set}
 use Rattle.cpu_table.specs.CpuTable.{cpu_in, stored_in}
 use Rattle.cpu_table.specs.declared.CpuRows.{CpuRows}
 use Rattle.image.specs.Image.{mode_in}
