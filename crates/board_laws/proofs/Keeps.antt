@@ -80,7 +80,7 @@ unfolding state_after history_of numbers_of
 run_keeps whole l Run.none = record { state = l; whole = whole; numbers = refl }
 run_keeps {s = s} {r = r} whole l (Run.next {k = k} {ks = ks} {ns = ns} handed x m rest) =
     let y = board_keeps whole r l handed k x m in
-    let z = run_keeps y.whole y.answer.state rest in
+    let z = run_keeps {s = (call_of s k).state} y.whole y.answer.state rest in
     record {
       state = z.state;
       whole = z.whole;
