@@ -1,0 +1,7 @@
+// What C links of the calls for a board: the functions of `board_calls`, each under its own name.
+#![tactic(auto)]
+
+pub mod down;
+pub mod on;
+pub mod start;
+pub mod wake;
