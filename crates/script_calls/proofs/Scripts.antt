@@ -4,9 +4,8 @@ use mathlib.Core.Bool.{true, false}
 use mathlib.Core.List.{List, [], ◌∷◌}
 use mathlib.Core.Path.{◌≡◌, refl, sym, ap, ◌∙◌}
 use lib.IntN.{ℤ}
-use lib.ListN.{drop}
 use Rattle.model.specs.Numbers.{acceptedb, number_of}
-use Rattle.script.specs.Run.{Run, out_after, run_of, start_of, stopped}
+use Rattle.script.specs.Run.{Run, out_after, run_of, start_of}
 use Rattle.script.specs.declared.run.RunAnswer.{RunAnswer}
 use Rattle.script.specs.declared.run.Start.{Start}
 use Rattle.script_calls.specs.Script.{run_from, script_of}
