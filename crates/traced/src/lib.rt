@@ -30,6 +30,7 @@ pub const REQUEST: usize = 581;
 pub const REPLY: usize = 1254;
 
 // The code and what goes out.
+#[tactic(auto, unfolding(crate::specs::Reply::tables_onto))]
 fn lay_going_out(out: &mut [u8], a: CallAnswer)
     ensures { out.new ≡ tables_onto a going_out 0 out.old }
 {
@@ -40,6 +41,7 @@ fn lay_going_out(out: &mut [u8], a: CallAnswer)
 }
 
 // The board.
+#[tactic(auto, unfolding(crate::specs::Reply::tables_onto))]
 fn lay_board(out: &mut [u8], a: CallAnswer)
     ensures { out.new ≡ tables_onto a board 109 out.old }
 {
@@ -49,6 +51,7 @@ fn lay_board(out: &mut [u8], a: CallAnswer)
 }
 
 // The tree.
+#[tactic(auto, unfolding(crate::specs::Reply::tables_onto))]
 fn lay_tree(out: &mut [u8], a: CallAnswer)
     ensures { out.new ≡ tables_onto a tree 132 out.old }
 {
@@ -60,6 +63,7 @@ fn lay_tree(out: &mut [u8], a: CallAnswer)
 }
 
 // What changes of the state.
+#[tactic(auto, unfolding(crate::specs::Reply::tables_onto))]
 fn lay_power(out: &mut [u8], a: CallAnswer)
     ensures { out.new ≡ tables_onto a power 212 out.old }
 {
@@ -72,6 +76,7 @@ fn lay_power(out: &mut [u8], a: CallAnswer)
 }
 
 // The queries.
+#[tactic(auto, unfolding(crate::specs::Reply::tables_onto))]
 fn lay_queries(out: &mut [u8], a: CallAnswer)
     ensures { out.new ≡ tables_onto a queries 661 out.old }
 {
@@ -83,6 +88,7 @@ fn lay_queries(out: &mut [u8], a: CallAnswer)
 }
 
 // Writes an answer; what has no room is dropped.
+#[tactic(auto, unfolding(crate::specs::Reply::reply_onto, crate::specs::Reply::tables_onto))]
 pub fn write_reply(out: &mut [u8], a: CallAnswer)
     ensures { out.new ≡ reply_onto a out.old }
 {
@@ -123,6 +129,7 @@ pub fn event(state: State, bytes: &[u8]) -> CallAnswer
 }
 
 // The answer to a request: a kind, 2 for a start and else an event; a record; for an event the state before it.
+#[tactic(auto, unfolding(crate::specs::Reply::answer_to))]
 pub fn answer(request: &[u8; REQUEST]) -> CallAnswer
     ensures { result ≡ answer_to request.now }
 {

@@ -1,5 +1,5 @@
 // The tables of a reply, in their order: what goes out, the state after the call, the queries of that state.
-#[derive(Drop)]
+#[derive(Clone, Copy)]
 pub enum Table {
     // code, whether a suspend was not entered, which wake it was
     Head,

@@ -17,6 +17,7 @@ use traced_bytes::stored::{
 };
 
 // What stands in a table, by row and column.
+#[tactic(auto, unfolding(crate::specs::Reply::cell_of))]
 fn cell(a: CallAnswer, table: Table, row: u8, column: u8) -> u8
     ensures { result ≡ cell_of a table row column }
 {
