@@ -10,10 +10,9 @@
 //
 // A reply is the one before it, of zeros at a start, with the runs laid over it. A run is its place in two bytes, its length in
 // one, and its bytes.
-use crate::bytes::{fill, lay, part, read_front, same};
+use crate::bytes::{STDIN, fill, lay, part, read_front, same};
 use crate::write::{number, text};
 use fresh::no_state;
-use crate::bytes::STDIN;
 use model::answer::CallAnswer;
 use model::state::State;
 use numbers::{read_u16, read_u32};

@@ -6,6 +6,7 @@ use traced::{REPLY, REQUEST, answer, write_reply};
 
 // The standard streams' numbers.
 const STDIN: i32 = 0;
+
 const STDOUT: i32 = 1;
 
 // Answers the next request, and says whether there was one.
