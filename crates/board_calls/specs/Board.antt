@@ -1,18 +1,18 @@
 -- A board that lies in rows: what the calls read of it, and what they make of it.
 use Rattle.std.specs.Prelude.{ℕ, cond, List, [], ◌∷◌, ℤ, get_or, set}
+use Rattle.board_calls.specs.declared.kept.BoardView.{BoardView}
 use Rattle.cpu_table.specs.CpuTable.{cpu_in, stored_in}
 use Rattle.cpu_table.specs.declared.CpuRows.{CpuRows}
 use Rattle.image.specs.Image.{mode_in}
 use Rattle.in_place.specs.Stepped.{Outcome}
 use Rattle.in_place.specs.declared.Stepped.{Stepped}
 use Rattle.model.specs.declared.board.Tree.{Tree}
-use Rattle.model.specs.declared.code.Code.{Code}
 use Rattle.model.specs.declared.cpu.CpuPowerNode.{CpuPowerNode}
 use Rattle.model.specs.declared.state.Domains.{Domains}
 use Rattle.model.specs.declared.state.SuspendMode.{SuspendMode}
 use Rattle.model.specs.declared.states.CompositeState.{CompositeState}
 use Rattle.model.specs.declared.states.Platform.{Platform}
-use Rattle.model.specs.Numbers.{acceptedb, number_of}
+use Rattle.model.specs.Numbers.{Code, acceptedb, number_of}
 use Rattle.model.specs.Tree.{no_row}
 
 -- the row of the board: MAX, how many states there are, d, how many CPUs there are, the mode
@@ -37,6 +37,10 @@ module _ (board : List ℕ) where
     child_starts = no_row;
     child_ends = no_row;
   }
+
+-- the same of rows that are lent together
+abbrev pub tree_of : BoardView → Tree
+tree_of b = tree_on b.row.now b.parents.now b.starts.now b.ends.now
 
 -- the states that the platform is handed, from the CPU up
 abbrev pub handed_bytes : CompositeState → List ℕ

@@ -1,228 +1,103 @@
 // The calls of a CPU that goes down: off, suspend and system suspend.
 ghost use Rattle.std.specs.Prelude.{◌≡◌};
-ghost use Rattle.board_calls.specs.Board.{called, call_on, count_on, mode_on, platform_on, tree_on};
-ghost use Rattle.cpu_table.specs.CpuTable.{cpu_table, others_off_bytes};
+ghost use Rattle.board_calls.specs.Board.{called, call_on, count_on, mode_on, platform_on, tree_of};
+ghost use Rattle.cpu_table.specs.CpuTable.{SameCpus, lent_cpus, others_off_bytes};
 ghost use Rattle.in_place.specs.Stepped.{off_in, suspend_in, system_suspend_in};
-ghost use Rattle.paths.specs.Rows.{domain_rows};
+ghost use Rattle.paths.specs.Rows.{SameRows, lent_domains};
 
-use crate::kept::{BOARD, LEVELS, count_on, hand, keep, mode_on, platform_on, tree_on};
-use cpu_table::record::cpu_in;
+use crate::kept::{BoardView, LEVELS, count_on, hand, keep, mode_on, platform_on};
+use cpu_table::CpuTable;
 use cpu_table::walk::others_off;
 use in_place::down::{cpu_off, cpu_suspend_start, system_suspend};
 use model::cpu::EntryPoint;
-use model::limits::{CPUS, DOMAINS, REQUESTS};
 use model::sorts::CpuNumber;
 use model::states::CompositeState;
+use paths::DomainRows;
 
 // CPU_OFF: the caller turns itself off. The platform is asked early whether it may.
-#[unsafe(no_mangle)]
-pub extern "C" fn psci_cpu_off(
-    board: &[u8; BOARD],
-    parents: &[u8; DOMAINS],
-    starts: &[u8; DOMAINS],
-    ends: &[u8; DOMAINS],
-    states: &mut [u8; DOMAINS],
-    requests: &mut [u8; REQUESTS],
-    suspends: &mut [u8; REQUESTS],
-    copies: &mut [u8; DOMAINS],
-    firsts: &[u8; CPUS],
-    affinities: &mut [u8; CPUS],
-    locals: &mut [u8; CPUS],
-    helds: &mut [u8; CPUS],
-    addresses: &mut [u64; CPUS],
-    contexts: &mut [u64; CPUS],
+pub fn psci_cpu_off(
+    board: BoardView,
+    rows: &mut DomainRows,
+    cpus: &mut CpuTable,
     handed: &mut [u8; LEVELS],
-    caller: u8,
+    caller: CpuNumber,
     early_answer: u8,
 ) -> i32
-    ensures { called result (domain_rows states.new requests.new suspends.new copies.new)
-        (cpu_table firsts.now affinities.new locals.new helds.new addresses.new contexts.new) handed.new
-        ≡ call_on (domain_rows states.old requests.old suspends.old copies.old)
-        (cpu_table firsts.now affinities.old locals.old helds.old addresses.old contexts.old) handed.old caller
-        (λ node d. off_in (tree_on board.now parents.now starts.now ends.now)
-        (platform_on board.now) caller node d early_answer) }
+    ensures same_rows { SameRows rows.old rows.new }
+    ensures same_cpus { SameCpus cpus.old cpus.new }
+    ensures value { called result (lent_domains rows.new) (lent_cpus cpus.new) handed.new
+        ≡ call_on (lent_domains rows.old) (lent_cpus cpus.old) handed.old caller.0
+        (λ node d. off_in (tree_of board.entry) (platform_on board.entry.row.now) caller.0 node d early_answer) }
 {
-    let node = cpu_in(
-        firsts,
-        affinities,
-        locals,
-        helds,
-        addresses,
-        contexts,
-        CpuNumber(caller),
-    );
-    let tree = tree_on(board, parents, starts, ends);
-    let p = platform_on(board);
-    let done = cpu_off(
-        tree,
-        states,
-        requests,
-        suspends,
-        copies,
-        p,
-        CpuNumber(caller),
-        node,
-        early_answer,
-    );
+    let node = cpus.cpu_in(caller);
+    let tree = board.tree();
+    let p = platform_on(board.row);
+    let done = cpu_off(tree, rows, p, caller, node, early_answer);
     hand(handed, done);
-    keep(
-        affinities,
-        locals,
-        helds,
-        addresses,
-        contexts,
-        CpuNumber(caller),
-        done,
-    )
+    keep(cpus, caller, done)
 }
 
 // CPU_SUSPEND up to its wait.
-#[unsafe(no_mangle)]
-pub extern "C" fn psci_cpu_suspend_start(
-    board: &[u8; BOARD],
-    parents: &[u8; DOMAINS],
-    starts: &[u8; DOMAINS],
-    ends: &[u8; DOMAINS],
-    states: &mut [u8; DOMAINS],
-    requests: &mut [u8; REQUESTS],
-    suspends: &mut [u8; REQUESTS],
-    copies: &mut [u8; DOMAINS],
-    firsts: &[u8; CPUS],
-    affinities: &mut [u8; CPUS],
-    locals: &mut [u8; CPUS],
-    helds: &mut [u8; CPUS],
-    addresses: &mut [u64; CPUS],
-    contexts: &mut [u64; CPUS],
+pub fn psci_cpu_suspend_start(
+    board: BoardView,
+    rows: &mut DomainRows,
+    cpus: &mut CpuTable,
     handed: &mut [u8; LEVELS],
-    caller: u8,
+    caller: CpuNumber,
     pending: bool,
-    address: u64,
-    context: u64,
-    level0: u8,
-    level1: u8,
-    level2: u8,
-    level3: u8,
+    entry: EntryPoint,
+    asked: CompositeState,
 ) -> i32
-    ensures { called result (domain_rows states.new requests.new suspends.new copies.new)
-        (cpu_table firsts.now affinities.new locals.new helds.new addresses.new contexts.new) handed.new
-        ≡ call_on (domain_rows states.old requests.old suspends.old copies.old)
-        (cpu_table firsts.now affinities.old locals.old helds.old addresses.old contexts.old) handed.old caller
-        (λ node d. suspend_in (tree_on board.now parents.now starts.now ends.now)
-        (platform_on board.now) caller node d (mode_on board.now) pending (record { address = address; context = context })
-        (record { level0 = level0; level1 = level1; level2 = level2; level3 = level3 })) }
+    ensures same_rows { SameRows rows.old rows.new }
+    ensures same_cpus { SameCpus cpus.old cpus.new }
+    ensures value { called result (lent_domains rows.new) (lent_cpus cpus.new) handed.new
+        ≡ call_on (lent_domains rows.old) (lent_cpus cpus.old) handed.old caller.0
+        (λ node d. suspend_in (tree_of board.entry) (platform_on board.entry.row.now) caller.0 node d
+        (mode_on board.entry.row.now) pending entry asked) }
 {
-    let node = cpu_in(
-        firsts,
-        affinities,
-        locals,
-        helds,
-        addresses,
-        contexts,
-        CpuNumber(caller),
-    );
-    let tree = tree_on(board, parents, starts, ends);
-    let p = platform_on(board);
-    let mode = mode_on(board);
-    let entry = EntryPoint { address, context };
-    let asked = CompositeState {
-        level0,
-        level1,
-        level2,
-        level3,
-    };
-    let done = cpu_suspend_start(
-        tree,
-        states,
-        requests,
-        suspends,
-        copies,
-        p,
-        mode,
-        CpuNumber(caller),
-        node,
-        pending,
-        entry,
-        asked,
-    );
+    let node = cpus.cpu_in(caller);
+    let tree = board.tree();
+    let p = platform_on(board.row);
+    let mode = mode_on(board.row);
+    let done = cpu_suspend_start(tree, rows, p, mode, caller, node, pending, entry, asked);
     hand(handed, done);
-    keep(
-        affinities,
-        locals,
-        helds,
-        addresses,
-        contexts,
-        CpuNumber(caller),
-        done,
-    )
+    keep(cpus, caller, done)
 }
 
 // SYSTEM_SUSPEND up to its wait: the last CPU that is on suspends to the states that the platform has for this.
-#[unsafe(no_mangle)]
-pub extern "C" fn psci_system_suspend(
-    board: &[u8; BOARD],
-    parents: &[u8; DOMAINS],
-    starts: &[u8; DOMAINS],
-    ends: &[u8; DOMAINS],
-    states: &mut [u8; DOMAINS],
-    requests: &mut [u8; REQUESTS],
-    suspends: &mut [u8; REQUESTS],
-    copies: &mut [u8; DOMAINS],
-    firsts: &[u8; CPUS],
-    affinities: &mut [u8; CPUS],
-    locals: &mut [u8; CPUS],
-    helds: &mut [u8; CPUS],
-    addresses: &mut [u64; CPUS],
-    contexts: &mut [u64; CPUS],
+pub fn psci_system_suspend(
+    board: BoardView,
+    rows: &mut DomainRows,
+    cpus: &mut CpuTable,
     handed: &mut [u8; LEVELS],
-    caller: u8,
+    caller: CpuNumber,
     feature: bool,
     pending: bool,
     address_good: bool,
-    address: u64,
-    context: u64,
-    level0: u8,
-    level1: u8,
-    level2: u8,
-    level3: u8,
+    entry: EntryPoint,
+    asked: CompositeState,
 ) -> i32
-    ensures { called result (domain_rows states.new requests.new suspends.new copies.new)
-        (cpu_table firsts.now affinities.new locals.new helds.new addresses.new contexts.new) handed.new
-        ≡ call_on (domain_rows states.old requests.old suspends.old copies.old)
-        (cpu_table firsts.now affinities.old locals.old helds.old addresses.old contexts.old) handed.old caller
-        (λ node d. system_suspend_in (tree_on board.now parents.now starts.now ends.now)
-        (platform_on board.now) caller node d (mode_on board.now) feature
-        (others_off_bytes affinities.old (count_on board.now) caller) pending address_good (record { address = address; context = context })
-        (record { level0 = level0; level1 = level1; level2 = level2; level3 = level3 })) }
+    ensures same_rows { SameRows rows.old rows.new }
+    ensures same_cpus { SameCpus cpus.old cpus.new }
+    ensures value { called result (lent_domains rows.new) (lent_cpus cpus.new) handed.new
+        ≡ call_on (lent_domains rows.old) (lent_cpus cpus.old) handed.old caller.0
+        (λ node d. system_suspend_in (tree_of board.entry) (platform_on board.entry.row.now) caller.0 node d
+        (mode_on board.entry.row.now) feature
+        (others_off_bytes (lent_cpus cpus.old).affinities (count_on board.entry.row.now) caller.0)
+        pending address_good entry asked) }
 {
-    let node = cpu_in(
-        firsts,
-        affinities,
-        locals,
-        helds,
-        addresses,
-        contexts,
-        CpuNumber(caller),
-    );
-    let tree = tree_on(board, parents, starts, ends);
-    let p = platform_on(board);
-    let mode = mode_on(board);
-    let entry = EntryPoint { address, context };
-    let asked = CompositeState {
-        level0,
-        level1,
-        level2,
-        level3,
-    };
-    let last = others_off(affinities, count_on(board), caller);
+    let node = cpus.cpu_in(caller);
+    let tree = board.tree();
+    let p = platform_on(board.row);
+    let mode = mode_on(board.row);
+    let affinities = &*cpus.affinities;
+    let last = others_off(affinities, count_on(board.row), caller.0);
     let done = system_suspend(
         tree,
-        states,
-        requests,
-        suspends,
-        copies,
+        rows,
         p,
         mode,
-        CpuNumber(caller),
+        caller,
         node,
         last,
         feature,
@@ -232,13 +107,5 @@ pub extern "C" fn psci_system_suspend(
         asked,
     );
     hand(handed, done);
-    keep(
-        affinities,
-        locals,
-        helds,
-        addresses,
-        contexts,
-        CpuNumber(caller),
-        done,
-    )
+    keep(cpus, caller, done)
 }

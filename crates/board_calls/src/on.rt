@@ -1,121 +1,72 @@
 // The calls that turn nothing off: on and set mode.
 ghost use Rattle.std.specs.Prelude.{◌≡◌};
 ghost use Rattle.board_calls.specs.Board.{count_on, mode_on, moded, mode_set, turned, turn_on};
-ghost use Rattle.cpu_table.specs.CpuTable.{all_on_bytes, cpu_in, cpu_table, others_off_bytes};
+ghost use Rattle.cpu_table.specs.CpuTable.{SameCpus, all_on_bytes, cpu_in, lent_cpus, others_off_bytes, view_rows};
 ghost use Rattle.image.specs.Image.{mode_in};
 ghost use Rattle.in_place.specs.Stepped.{mode_in as mode_code_in, on_in};
 
 use crate::kept::{BOARD, count_on, keep, mode_on};
-use cpu_table::record::cpu_in;
 use cpu_table::walk::{all_on, others_off};
+use cpu_table::{CpuTable, CpuView};
 use image::mode_in;
 use in_place::on::{cpu_on, set_suspend_mode};
+use model::code::number;
 use model::cpu::EntryPoint;
-use model::limits::CPUS;
 use model::sorts::CpuNumber;
 use rows::cells::put;
 
 // CPU_ON: turns a CPU on. The platform says whether the address is good, and what comes of its own part.
-#[unsafe(no_mangle)]
-pub extern "C" fn psci_cpu_on(
+pub fn psci_cpu_on(
     board: &[u8; BOARD],
-    firsts: &[u8; CPUS],
-    affinities: &mut [u8; CPUS],
-    locals: &mut [u8; CPUS],
-    helds: &mut [u8; CPUS],
-    addresses: &mut [u64; CPUS],
-    contexts: &mut [u64; CPUS],
-    caller: u8,
-    target: u8,
-    address: u64,
-    context: u64,
+    cpus: &mut CpuTable,
+    caller: CpuNumber,
+    target: CpuNumber,
+    entry: EntryPoint,
     address_good: bool,
     answer: u8,
 ) -> i32
-    ensures { turned result
-        (cpu_table firsts.now affinities.new locals.new helds.new addresses.new contexts.new)
-        ≡ turn_on (cpu_table firsts.now affinities.old locals.old helds.old addresses.old contexts.old)
-        target (on_in (count_on board.now) caller
-        (cpu_in (cpu_table firsts.now affinities.old locals.old helds.old addresses.old contexts.old) caller) target
-        (cpu_in (cpu_table firsts.now affinities.old locals.old helds.old addresses.old contexts.old) target)
-        (record { address = address; context = context }) address_good answer) }
+    ensures same_cpus { SameCpus cpus.old cpus.new }
+    ensures value { turned result (lent_cpus cpus.new)
+        ≡ turn_on (lent_cpus cpus.old) target.0 (on_in (count_on board.now) caller.0 (cpu_in (lent_cpus cpus.old) caller.0)
+        target.0 (cpu_in (lent_cpus cpus.old) target.0) entry address_good answer) }
 {
-    let by = cpu_in(
-        firsts,
-        affinities,
-        locals,
-        helds,
-        addresses,
-        contexts,
-        CpuNumber(caller),
-    );
-    let node = cpu_in(
-        firsts,
-        affinities,
-        locals,
-        helds,
-        addresses,
-        contexts,
-        CpuNumber(target),
-    );
-    let entry = EntryPoint { address, context };
+    let by = cpus.cpu_in(caller);
+    let node = cpus.cpu_in(target);
     let done = cpu_on(
         count_on(board),
-        CpuNumber(caller),
+        caller,
         by,
-        CpuNumber(target),
+        target,
         node,
         entry,
         address_good,
         answer,
     );
-    keep(
-        affinities,
-        locals,
-        helds,
-        addresses,
-        contexts,
-        CpuNumber(target),
-        done,
-    )
+    keep(cpus, target, done)
 }
 
 // PSCI_SET_SUSPEND_MODE: sets who coordinates the power states, 0 the platform, 1 the OS.
-#[unsafe(no_mangle)]
-pub extern "C" fn psci_set_suspend_mode(
+pub fn psci_set_suspend_mode(
     board: &mut [u8; BOARD],
-    firsts: &[u8; CPUS],
-    affinities: &[u8; CPUS],
-    locals: &[u8; CPUS],
-    helds: &[u8; CPUS],
-    addresses: &[u64; CPUS],
-    contexts: &[u64; CPUS],
-    caller: u8,
+    cpus: CpuView,
+    caller: CpuNumber,
     feature: bool,
     mode: u8,
 ) -> i32
     ensures { moded result board.new
-        ≡ mode_set board.old mode (mode_code_in (count_on board.old) caller
-        (cpu_in (cpu_table firsts.now affinities.now locals.now helds.now addresses.now contexts.now) caller) feature
-        (mode_on board.old) (mode_in mode) (others_off_bytes affinities.now (count_on board.old) caller)
-        (all_on_bytes affinities.now (count_on board.old))) }
+        ≡ mode_set board.old mode (mode_code_in (count_on board.old) caller.0 (cpu_in (view_rows cpus.entry) caller.0)
+        feature (mode_on board.old) (mode_in mode)
+        (others_off_bytes (view_rows cpus.entry).affinities (count_on board.old) caller.0)
+        (all_on_bytes (view_rows cpus.entry).affinities (count_on board.old))) }
 {
-    let by = cpu_in(
-        firsts,
-        affinities,
-        locals,
-        helds,
-        addresses,
-        contexts,
-        CpuNumber(caller),
-    );
+    let by = cpus.cpu_in(caller);
     let count = count_on(board);
-    let last = others_off(affinities, count, caller);
-    let all = all_on(affinities, count);
+    let last = others_off(cpus.affinities, count, caller.0);
+    let all = all_on(cpus.affinities, count);
     let current = mode_on(board);
     let code = set_suspend_mode(
         count,
-        CpuNumber(caller),
+        caller,
         by,
         last,
         all,
@@ -123,9 +74,9 @@ pub extern "C" fn psci_set_suspend_mode(
         feature,
         mode_in(mode),
     );
-    if code.is_accepted() {
+    if code.is_ok() {
         put(board, 4, mode);
         return 0;
     }
-    code.number()
+    number(code)
 }

@@ -3,17 +3,19 @@ ghost use Rattle.std.specs.Prelude.{◌≡◌};
 ghost use Rattle.board_calls.specs.Start.{board_bytes, board_rows, started, start_on};
 ghost use Rattle.cpu_table.specs.CpuTable.{cpu_table};
 ghost use Rattle.model.specs.Fresh.{fresh_of};
-ghost use Rattle.paths.specs.Rows.{domain_rows};
+ghost use Rattle.paths.specs.Rows.{SameRows, lent_domains};
 
 use crate::kept::BOARD;
 use cpu_table::CpuRows;
 use cpu_table::tables::rows_of;
 use fresh::fresh;
 use model::board::Tree;
-use model::limits::{CPUS, DOMAINS, REQUESTS};
-use model::sorts::{CpuNumber, PowerLevel};
+use model::code::number;
+use model::limits::{CPUS, DOMAINS};
+use model::sorts::CpuNumber;
 use model::state::{Domains, State};
 use model::states::Platform;
+use paths::DomainRows;
 
 // The board's row.
 fn fill_board(board: &mut [u8; BOARD], p: Platform, count: u8)
@@ -22,7 +24,8 @@ fn fill_board(board: &mut [u8; BOARD], p: Platform, count: u8)
     *board = [p.max.0, p.states, p.down, count, 0];
 }
 
-// The rows of the tree.
+// The rows of the tree. Three by themselves, as a `BoardView` lends them to be read. Each array goes through a name: the borrow checker
+// covers no field that is stored straight.
 fn fill_tree(
     parents: &mut [u8; DOMAINS],
     starts: &mut [u8; DOMAINS],
@@ -42,26 +45,23 @@ fn fill_tree(
 }
 
 // The rows of the domains.
-fn fill_domains(
-    states: &mut [u8; DOMAINS],
-    requests: &mut [u8; REQUESTS],
-    suspends: &mut [u8; REQUESTS],
-    copies: &mut [u8; DOMAINS],
-    domains: Domains,
-)
-    ensures { domain_rows states.new requests.new suspends.new copies.new ≡ domains }
+fn fill_domains(rows: &mut DomainRows, domains: Domains)
+    ensures same { SameRows rows.old rows.new }
+    ensures value { lent_domains rows.new ≡ domains }
 {
-    let own_states = domains.states;
-    *states = own_states;
-    let own_requests = domains.requests;
-    *requests = own_requests;
-    let own_suspends = domains.suspends;
-    *suspends = own_suspends;
-    let own_copies = domains.copies;
-    *copies = own_copies;
+    let Domains {
+        states,
+        requests,
+        suspends,
+        copies,
+    } = domains;
+    *rows.states = states;
+    *rows.requests = requests;
+    *rows.suspends = suspends;
+    *rows.copies = copies;
 }
 
-// The rows of the CPUs.
+// The rows of the CPUs. Six by themselves: a start alone stores the CPUs' domains, which a `CpuTable` lends to be read.
 fn fill_cpus(
     firsts: &mut [u8; CPUS],
     affinities: &mut [u8; CPUS],
@@ -89,21 +89,15 @@ fn fill_cpus(
 }
 
 // Starts a board: 0, or 101 if it is not acceptable, and then no row changes.
-#[unsafe(no_mangle)]
-pub extern "C" fn psci_start(
+pub fn psci_start(
     topology: &[u8],
-    max: u8,
-    state_count: u8,
-    down: u8,
-    primary: u8,
+    p: Platform,
+    primary: CpuNumber,
     board: &mut [u8; BOARD],
     parents: &mut [u8; DOMAINS],
     starts: &mut [u8; DOMAINS],
     ends: &mut [u8; DOMAINS],
-    states: &mut [u8; DOMAINS],
-    requests: &mut [u8; REQUESTS],
-    suspends: &mut [u8; REQUESTS],
-    copies: &mut [u8; DOMAINS],
+    rows: &mut DomainRows,
     firsts: &mut [u8; CPUS],
     affinities: &mut [u8; CPUS],
     locals: &mut [u8; CPUS],
@@ -111,32 +105,30 @@ pub extern "C" fn psci_start(
     addresses: &mut [u64; CPUS],
     contexts: &mut [u64; CPUS],
 ) -> i32
-    ensures { started result (board_rows board.new parents.new starts.new ends.new
-        (domain_rows states.new requests.new suspends.new copies.new)
+    ensures same { SameRows rows.old rows.new }
+    ensures value { started result (board_rows board.new parents.new starts.new ends.new
+        (lent_domains rows.new)
         (cpu_table firsts.new affinities.new locals.new helds.new addresses.new contexts.new))
         ≡ start_on (board_rows board.old parents.old starts.old ends.old
-        (domain_rows states.old requests.old suspends.old copies.old)
+        (lent_domains rows.old)
         (cpu_table firsts.old affinities.old locals.old helds.old addresses.old contexts.old))
-        (fresh_of (record { max = record { 0 = max }; states = state_count; down = down }) (record { 0 = primary }) topology.now) }
+        (fresh_of p primary topology.now) }
 {
-    let p = Platform {
-        max: PowerLevel(max),
-        states: state_count,
-        down,
-    };
-    let made = fresh(p, CpuNumber(primary), topology);
+    let made = fresh(p, primary, topology);
     let code = made.code;
-    if code.is_accepted() {
+    if code.is_ok() {
         let s = made.state;
         let tree = s.tree;
         let cpus = s.cpus;
-        let rows = rows_of(cpus);
+        let table = rows_of(cpus);
         let domains = s.domains;
         fill_board(board, s.board.platform, tree.cpu_count);
         fill_tree(parents, starts, ends, tree);
-        fill_domains(states, requests, suspends, copies, domains);
-        fill_cpus(firsts, affinities, locals, helds, addresses, contexts, rows);
+        fill_domains(rows, domains);
+        fill_cpus(
+            firsts, affinities, locals, helds, addresses, contexts, table,
+        );
         return 0;
     }
-    code.number()
+    number(code)
 }

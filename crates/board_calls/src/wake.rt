@@ -1,132 +1,56 @@
 // The calls of a CPU that wakes: finish and boot.
 ghost use Rattle.std.specs.Prelude.{◌≡◌};
-ghost use Rattle.board_calls.specs.Board.{called, call_on, platform_on, tree_on};
-ghost use Rattle.cpu_table.specs.CpuTable.{cpu_table};
+ghost use Rattle.board_calls.specs.Board.{called, call_on, platform_on, tree_of};
+ghost use Rattle.cpu_table.specs.CpuTable.{SameCpus, lent_cpus};
 ghost use Rattle.in_place.specs.Stepped.{boot_in, finish_in};
-ghost use Rattle.paths.specs.Rows.{domain_rows};
+ghost use Rattle.paths.specs.Rows.{SameRows, lent_domains};
 
-use crate::kept::{BOARD, LEVELS, hand, keep, platform_on, tree_on};
-use cpu_table::record::cpu_in;
+use crate::kept::{BoardView, LEVELS, hand, keep, platform_on};
+use cpu_table::CpuTable;
 use in_place::wake::{cpu_suspend_finish, handle_cpu_boot};
-use model::limits::{CPUS, DOMAINS, REQUESTS};
 use model::sorts::CpuNumber;
+use paths::DomainRows;
 
 // The rest of a suspend after its wait.
-#[unsafe(no_mangle)]
-pub extern "C" fn psci_cpu_suspend_finish(
-    board: &[u8; BOARD],
-    parents: &[u8; DOMAINS],
-    starts: &[u8; DOMAINS],
-    ends: &[u8; DOMAINS],
-    states: &mut [u8; DOMAINS],
-    requests: &mut [u8; REQUESTS],
-    suspends: &mut [u8; REQUESTS],
-    copies: &mut [u8; DOMAINS],
-    firsts: &[u8; CPUS],
-    affinities: &mut [u8; CPUS],
-    locals: &mut [u8; CPUS],
-    helds: &mut [u8; CPUS],
-    addresses: &mut [u64; CPUS],
-    contexts: &mut [u64; CPUS],
+pub fn psci_cpu_suspend_finish(
+    board: BoardView,
+    rows: &mut DomainRows,
+    cpus: &mut CpuTable,
     handed: &mut [u8; LEVELS],
-    cpu: u8,
+    cpu: CpuNumber,
 ) -> i32
-    ensures { called result (domain_rows states.new requests.new suspends.new copies.new)
-        (cpu_table firsts.now affinities.new locals.new helds.new addresses.new contexts.new) handed.new
-        ≡ call_on (domain_rows states.old requests.old suspends.old copies.old)
-        (cpu_table firsts.now affinities.old locals.old helds.old addresses.old contexts.old) handed.old cpu
-        (λ node d. finish_in (tree_on board.now parents.now starts.now ends.now)
-        (platform_on board.now) cpu node d) }
+    ensures same_rows { SameRows rows.old rows.new }
+    ensures same_cpus { SameCpus cpus.old cpus.new }
+    ensures value { called result (lent_domains rows.new) (lent_cpus cpus.new) handed.new
+        ≡ call_on (lent_domains rows.old) (lent_cpus cpus.old) handed.old cpu.0
+        (λ node d. finish_in (tree_of board.entry) (platform_on board.entry.row.now) cpu.0 node d) }
 {
-    let node = cpu_in(
-        firsts,
-        affinities,
-        locals,
-        helds,
-        addresses,
-        contexts,
-        CpuNumber(cpu),
-    );
-    let tree = tree_on(board, parents, starts, ends);
-    let p = platform_on(board);
-    let done = cpu_suspend_finish(
-        tree,
-        states,
-        requests,
-        suspends,
-        copies,
-        p,
-        CpuNumber(cpu),
-        node,
-    );
+    let node = cpus.cpu_in(cpu);
+    let tree = board.tree();
+    let p = platform_on(board.row);
+    let done = cpu_suspend_finish(tree, rows, p, cpu, node);
     hand(handed, done);
-    keep(
-        affinities,
-        locals,
-        helds,
-        addresses,
-        contexts,
-        CpuNumber(cpu),
-        done,
-    )
+    keep(cpus, cpu, done)
 }
 
 // A CPU that is powered up: after CPU_ON, or from a suspend that lost its state. Its entry stays in the rows of addresses and contexts.
-#[unsafe(no_mangle)]
-pub extern "C" fn psci_handle_cpu_boot(
-    board: &[u8; BOARD],
-    parents: &[u8; DOMAINS],
-    starts: &[u8; DOMAINS],
-    ends: &[u8; DOMAINS],
-    states: &mut [u8; DOMAINS],
-    requests: &mut [u8; REQUESTS],
-    suspends: &mut [u8; REQUESTS],
-    copies: &mut [u8; DOMAINS],
-    firsts: &[u8; CPUS],
-    affinities: &mut [u8; CPUS],
-    locals: &mut [u8; CPUS],
-    helds: &mut [u8; CPUS],
-    addresses: &mut [u64; CPUS],
-    contexts: &mut [u64; CPUS],
+pub fn psci_handle_cpu_boot(
+    board: BoardView,
+    rows: &mut DomainRows,
+    cpus: &mut CpuTable,
     handed: &mut [u8; LEVELS],
-    cpu: u8,
+    cpu: CpuNumber,
 ) -> i32
-    ensures { called result (domain_rows states.new requests.new suspends.new copies.new)
-        (cpu_table firsts.now affinities.new locals.new helds.new addresses.new contexts.new) handed.new
-        ≡ call_on (domain_rows states.old requests.old suspends.old copies.old)
-        (cpu_table firsts.now affinities.old locals.old helds.old addresses.old contexts.old) handed.old cpu
-        (λ node d. boot_in (tree_on board.now parents.now starts.now ends.now)
-        (platform_on board.now) cpu node d) }
+    ensures same_rows { SameRows rows.old rows.new }
+    ensures same_cpus { SameCpus cpus.old cpus.new }
+    ensures value { called result (lent_domains rows.new) (lent_cpus cpus.new) handed.new
+        ≡ call_on (lent_domains rows.old) (lent_cpus cpus.old) handed.old cpu.0
+        (λ node d. boot_in (tree_of board.entry) (platform_on board.entry.row.now) cpu.0 node d) }
 {
-    let node = cpu_in(
-        firsts,
-        affinities,
-        locals,
-        helds,
-        addresses,
-        contexts,
-        CpuNumber(cpu),
-    );
-    let tree = tree_on(board, parents, starts, ends);
-    let p = platform_on(board);
-    let done = handle_cpu_boot(
-        tree,
-        states,
-        requests,
-        suspends,
-        copies,
-        p,
-        CpuNumber(cpu),
-        node,
-    );
+    let node = cpus.cpu_in(cpu);
+    let tree = board.tree();
+    let p = platform_on(board.row);
+    let done = handle_cpu_boot(tree, rows, p, cpu, node);
     hand(handed, done);
-    keep(
-        affinities,
-        locals,
-        helds,
-        addresses,
-        contexts,
-        CpuNumber(cpu),
-        done,
-    )
+    keep(cpus, cpu, done)
 }

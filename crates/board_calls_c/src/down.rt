@@ -5,8 +5,13 @@ ghost use Rattle.cpu_table.specs.CpuTable.{cpu_table, others_off_bytes};
 ghost use Rattle.in_place.specs.Stepped.{off_in, suspend_in, system_suspend_in};
 ghost use Rattle.paths.specs.Rows.{domain_rows};
 
-use board_calls::kept::{BOARD, LEVELS};
+use board_calls::kept::{BOARD, BoardView, LEVELS};
+use cpu_table::CpuTable;
+use model::cpu::EntryPoint;
 use model::limits::{CPUS, DOMAINS, REQUESTS};
+use model::sorts::CpuNumber;
+use model::states::CompositeState;
+use paths::DomainRows;
 
 // CPU_OFF: the caller turns itself off. The platform is asked early whether it may.
 #[unsafe(no_mangle)]
@@ -36,23 +41,32 @@ pub extern "C" fn psci_cpu_off(
         (λ node d. off_in (tree_on board.now parents.now starts.now ends.now)
         (platform_on board.now) caller node d early_answer) }
 {
-    board_calls::down::psci_cpu_off(
-        board,
+    let view = BoardView {
+        row: board,
         parents,
         starts,
         ends,
+    };
+    let mut rows = DomainRows {
         states,
         requests,
         suspends,
         copies,
+    };
+    let mut cpus = CpuTable {
         firsts,
         affinities,
         locals,
         helds,
         addresses,
         contexts,
+    };
+    board_calls::down::psci_cpu_off(
+        view,
+        &mut rows,
+        &mut cpus,
         handed,
-        caller,
+        CpuNumber(caller),
         early_answer,
     )
 }
@@ -92,10 +106,42 @@ pub extern "C" fn psci_cpu_suspend_start(
         (platform_on board.now) caller node d (mode_on board.now) pending (record { address = address; context = context })
         (record { level0 = level0; level1 = level1; level2 = level2; level3 = level3 })) }
 {
+    let view = BoardView {
+        row: board,
+        parents,
+        starts,
+        ends,
+    };
+    let mut rows = DomainRows {
+        states,
+        requests,
+        suspends,
+        copies,
+    };
+    let mut cpus = CpuTable {
+        firsts,
+        affinities,
+        locals,
+        helds,
+        addresses,
+        contexts,
+    };
+    let entry = EntryPoint { address, context };
+    let asked = CompositeState {
+        level0,
+        level1,
+        level2,
+        level3,
+    };
     board_calls::down::psci_cpu_suspend_start(
-        board, parents, starts, ends, states, requests, suspends, copies, firsts, affinities,
-        locals, helds, addresses, contexts, handed, caller, pending, address, context, level0,
-        level1, level2, level3,
+        view,
+        &mut rows,
+        &mut cpus,
+        handed,
+        CpuNumber(caller),
+        pending,
+        entry,
+        asked,
     )
 }
 
@@ -137,31 +183,43 @@ pub extern "C" fn psci_system_suspend(
         (others_off_bytes affinities.old (count_on board.now) caller) pending address_good (record { address = address; context = context })
         (record { level0 = level0; level1 = level1; level2 = level2; level3 = level3 })) }
 {
-    board_calls::down::psci_system_suspend(
-        board,
+    let view = BoardView {
+        row: board,
         parents,
         starts,
         ends,
+    };
+    let mut rows = DomainRows {
         states,
         requests,
         suspends,
         copies,
+    };
+    let mut cpus = CpuTable {
         firsts,
         affinities,
         locals,
         helds,
         addresses,
         contexts,
-        handed,
-        caller,
-        feature,
-        pending,
-        address_good,
-        address,
-        context,
+    };
+    let entry = EntryPoint { address, context };
+    let asked = CompositeState {
         level0,
         level1,
         level2,
         level3,
+    };
+    board_calls::down::psci_system_suspend(
+        view,
+        &mut rows,
+        &mut cpus,
+        handed,
+        CpuNumber(caller),
+        feature,
+        pending,
+        address_good,
+        entry,
+        asked,
     )
 }

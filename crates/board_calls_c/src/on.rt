@@ -6,7 +6,10 @@ ghost use Rattle.image.specs.Image.{mode_in};
 ghost use Rattle.in_place.specs.Stepped.{mode_in as mode_code_in, on_in};
 
 use board_calls::kept::BOARD;
+use cpu_table::{CpuTable, CpuView};
+use model::cpu::EntryPoint;
 use model::limits::CPUS;
+use model::sorts::CpuNumber;
 
 // CPU_ON: turns a CPU on. The platform says whether the address is good, and what comes of its own part.
 #[unsafe(no_mangle)]
@@ -33,18 +36,21 @@ pub extern "C" fn psci_cpu_on(
         (cpu_in (cpu_table firsts.now affinities.old locals.old helds.old addresses.old contexts.old) target)
         (record { address = address; context = context }) address_good answer) }
 {
-    board_calls::on::psci_cpu_on(
-        board,
+    let mut cpus = CpuTable {
         firsts,
         affinities,
         locals,
         helds,
         addresses,
         contexts,
-        caller,
-        target,
-        address,
-        context,
+    };
+    let entry = EntryPoint { address, context };
+    board_calls::on::psci_cpu_on(
+        board,
+        &mut cpus,
+        CpuNumber(caller),
+        CpuNumber(target),
+        entry,
         address_good,
         answer,
     )
@@ -70,7 +76,13 @@ pub extern "C" fn psci_set_suspend_mode(
         (mode_on board.old) (mode_in mode) (others_off_bytes affinities.now (count_on board.old) caller)
         (all_on_bytes affinities.now (count_on board.old))) }
 {
-    board_calls::on::psci_set_suspend_mode(
-        board, firsts, affinities, locals, helds, addresses, contexts, caller, feature, mode,
-    )
+    let cpus = CpuView {
+        firsts,
+        affinities,
+        locals,
+        helds,
+        addresses,
+        contexts,
+    };
+    board_calls::on::psci_set_suspend_mode(board, cpus, CpuNumber(caller), feature, mode)
 }

@@ -7,6 +7,9 @@ ghost use Rattle.paths.specs.Rows.{domain_rows};
 
 use board_calls::kept::BOARD;
 use model::limits::{CPUS, DOMAINS, REQUESTS};
+use model::sorts::{CpuNumber, PowerLevel};
+use model::states::Platform;
+use paths::DomainRows;
 
 // Starts a board: 0, or 101 if it is not acceptable, and then no row changes.
 #[unsafe(no_mangle)]
@@ -39,20 +42,26 @@ pub extern "C" fn psci_start(
         (cpu_table firsts.old affinities.old locals.old helds.old addresses.old contexts.old))
         (fresh_of (record { max = record { 0 = max }; states = state_count; down = down }) (record { 0 = primary }) topology.now) }
 {
-    board_calls::start::psci_start(
-        topology,
-        max,
-        state_count,
+    let p = Platform {
+        max: PowerLevel(max),
+        states: state_count,
         down,
-        primary,
-        board,
-        parents,
-        starts,
-        ends,
+    };
+    let mut rows = DomainRows {
         states,
         requests,
         suspends,
         copies,
+    };
+    board_calls::start::psci_start(
+        topology,
+        p,
+        CpuNumber(primary),
+        board,
+        parents,
+        starts,
+        ends,
+        &mut rows,
         firsts,
         affinities,
         locals,

@@ -5,8 +5,11 @@ ghost use Rattle.cpu_table.specs.CpuTable.{cpu_table};
 ghost use Rattle.in_place.specs.Stepped.{boot_in, finish_in};
 ghost use Rattle.paths.specs.Rows.{domain_rows};
 
-use board_calls::kept::{BOARD, LEVELS};
+use board_calls::kept::{BOARD, BoardView, LEVELS};
+use cpu_table::CpuTable;
 use model::limits::{CPUS, DOMAINS, REQUESTS};
+use model::sorts::CpuNumber;
+use paths::DomainRows;
 
 // The rest of a suspend after its wait.
 #[unsafe(no_mangle)]
@@ -35,10 +38,27 @@ pub extern "C" fn psci_cpu_suspend_finish(
         (λ node d. finish_in (tree_on board.now parents.now starts.now ends.now)
         (platform_on board.now) cpu node d) }
 {
-    board_calls::wake::psci_cpu_suspend_finish(
-        board, parents, starts, ends, states, requests, suspends, copies, firsts, affinities,
-        locals, helds, addresses, contexts, handed, cpu,
-    )
+    let view = BoardView {
+        row: board,
+        parents,
+        starts,
+        ends,
+    };
+    let mut rows = DomainRows {
+        states,
+        requests,
+        suspends,
+        copies,
+    };
+    let mut cpus = CpuTable {
+        firsts,
+        affinities,
+        locals,
+        helds,
+        addresses,
+        contexts,
+    };
+    board_calls::wake::psci_cpu_suspend_finish(view, &mut rows, &mut cpus, handed, CpuNumber(cpu))
 }
 
 // A CPU that is powered up: after CPU_ON, or from a suspend that lost its state. Its entry stays in the rows of addresses and contexts.
@@ -68,8 +88,25 @@ pub extern "C" fn psci_handle_cpu_boot(
         (λ node d. boot_in (tree_on board.now parents.now starts.now ends.now)
         (platform_on board.now) cpu node d) }
 {
-    board_calls::wake::psci_handle_cpu_boot(
-        board, parents, starts, ends, states, requests, suspends, copies, firsts, affinities,
-        locals, helds, addresses, contexts, handed, cpu,
-    )
+    let view = BoardView {
+        row: board,
+        parents,
+        starts,
+        ends,
+    };
+    let mut rows = DomainRows {
+        states,
+        requests,
+        suspends,
+        copies,
+    };
+    let mut cpus = CpuTable {
+        firsts,
+        affinities,
+        locals,
+        helds,
+        addresses,
+        contexts,
+    };
+    board_calls::wake::psci_handle_cpu_boot(view, &mut rows, &mut cpus, handed, CpuNumber(cpu))
 }

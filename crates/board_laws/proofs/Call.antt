@@ -15,12 +15,11 @@ use Rattle.cpu_table.specs.declared.CpuRows.{CpuRows}
 use Rattle.in_place.proofs.Calls.{Gives}
 use Rattle.in_place.specs.Stepped.{Outcome, decided_on, stepped_of}
 use Rattle.in_place.specs.declared.Stepped.{Stepped}
-use Rattle.model.specs.Numbers.{acceptedb, number_of}
+use Rattle.model.specs.Numbers.{Code, acceptedb, number_of}
 use Rattle.model.specs.State.{cpu_at, no_cpu, platform_at, state_of}
 use Rattle.model.specs.declared.answer.CallAnswer.{CallAnswer}
 use Rattle.model.specs.declared.answer.Step.{Step}
 use Rattle.model.specs.declared.board.Tree.{Tree}
-use Rattle.model.specs.declared.code.Code.{Code}
 use Rattle.model.specs.declared.cpu.CpuPowerNode.{CpuPowerNode}
 use Rattle.model.specs.declared.state.Domains.{Domains}
 use Rattle.model.specs.declared.state.State.{State}

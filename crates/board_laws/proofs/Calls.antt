@@ -19,12 +19,11 @@ use Rattle.in_place.proofs.Calls.{boot_gives, finish_gives, mode_gives, off_give
 use Rattle.in_place.specs.Stepped.{boot_in, enter_in, finish_in, mode_in as mode_code_in, off_in, on_in, suspend_in, system_suspend_in}
 use Rattle.in_place.specs.declared.Stepped.{Stepped}
 use Rattle.model.specs.Calls.{cpu_off_of, cpu_on_of, cpu_suspend_finish_of, cpu_suspend_start_of, handle_cpu_boot_of, set_suspend_mode_of, system_suspend_of}
-use Rattle.model.specs.Numbers.{acceptedb, number_of}
+use Rattle.model.specs.Numbers.{Code, acceptedb, number_of}
 use Rattle.model.specs.State.{cpu_at, cpu_count_of, platform_at, with_mode}
 use Rattle.model.specs.StateQuery.{all_on_in, all_onb, others_off_in, others_offb}
 use Rattle.model.specs.declared.answer.Notice.{Notice}
 use Rattle.model.specs.declared.answer.Step.{Step}
-use Rattle.model.specs.declared.code.Code.{Code}
 use Rattle.model.specs.declared.cpu.CpuPowerNode.{CpuPowerNode}
 use Rattle.model.specs.declared.cpu.EntryPoint.{EntryPoint}
 use Rattle.model.specs.declared.state.Domains.{Domains}

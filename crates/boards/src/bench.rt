@@ -1,13 +1,12 @@
 // The fresh state of the bench board: MAX 2, four states, d 2, primary 0, topology 1,2,2,2. RUN is 0 and OFF is 3.
-use crate::refusals::{nothing, on, platform_coordinated};
-use crate::say;
 use crate::topologies::platform;
 use cpu_rows::cpu_in;
 use fresh::fresh;
 use levels::at_level;
-use model::cpu::{AffinityInfo, CpuPowerNode};
+use lines::say;
+use model::cpu::AffinityInfo;
 use model::sorts::{CpuNumber, PowerLevel};
-use model::state::{Domains, State};
+use model::state::{State, SuspendMode};
 use rows::cells::at;
 use soundness::sound;
 
@@ -15,142 +14,83 @@ fn bench() -> State {
     fresh(platform(2, 4, 2), CpuNumber(0), &[1, 2, 2, 2]).state
 }
 
-fn cpu(c: u8) -> CpuPowerNode {
-    let s = bench();
-    let cpus = s.cpus;
-    cpu_in(cpus, CpuNumber(c))
+// Has the CPU this affinity and state, and holds it no entry?
+fn cpu_is(s: State, cpu: u8, affinity: AffinityInfo, state: u8) -> bool {
+    let c = cpu_in(s.cpus, CpuNumber(cpu));
+    c.affinity_info == affinity && c.local_state == state && c.entry_point.is_none()
 }
 
-fn domains() -> Domains {
-    bench().domains
-}
-
-fn off(a: AffinityInfo) -> bool {
-    match a {
-        AffinityInfo::On => false,
-        AffinityInfo::Off => true,
-        AffinityInfo::OnPending => false,
+fn run_cpus(s: State) {
+    say("fresh: the state is sound", sound(s));
+    say(
+        "fresh: the mode is platform-coordinated",
+        s.mode == SuspendMode::PlatformCoordinated,
+    );
+    say(
+        "fresh: CPU 0 is On and RUN, and holds no entry",
+        cpu_is(s, 0, AffinityInfo::On, 0),
+    );
+    for cpu in 1..4 {
+        say(
+            format_args!("fresh: CPU {cpu} is Off and OFF, and holds no entry"),
+            cpu_is(s, cpu, AffinityInfo::Off, 3),
+        );
     }
 }
 
-fn on_and_run(c: u8) -> bool {
-    let r = cpu(c);
-    let a = r.affinity_info;
-    let e = r.entry_point;
-    on(a) & (r.local_state == 0) & nothing(e)
-}
-
-fn off_and_off(c: u8) -> bool {
-    let r = cpu(c);
-    let a = r.affinity_info;
-    let e = r.entry_point;
-    off(a) & (r.local_state == 3) & nothing(e)
-}
-
-fn coordinated() -> bool {
-    let s = bench();
-    let mode = s.mode;
-    platform_coordinated(mode)
-}
-
-fn run_cpus() {
-    say(b"fresh: the state is sound", sound(bench()));
-    say(b"fresh: the mode is platform-coordinated", coordinated());
+fn run_domains(s: State) {
+    let state = |domain: usize| at(&s.domains.states, domain);
+    let copy = |domain: usize| at(&s.domains.copies, domain);
+    say("fresh: domain 0, the top, is RUN", state(0) == 0);
+    say("fresh: domain 1, over CPU 0, is RUN", state(1) == 0);
+    say("fresh: domain 2 is OFF", state(2) == 3);
     say(
-        b"fresh: CPU 0 is On and RUN, and holds no entry",
-        on_and_run(0),
+        "fresh: domain 0, the top, has no copy, which is 0",
+        copy(0) == 0,
     );
-    say(
-        b"fresh: CPU 1 is Off and OFF, and holds no entry",
-        off_and_off(1),
-    );
-}
-
-fn run_more_cpus() {
-    say(
-        b"fresh: CPU 2 is Off and OFF, and holds no entry",
-        off_and_off(2),
-    );
-    say(
-        b"fresh: CPU 3 is Off and OFF, and holds no entry",
-        off_and_off(3),
-    );
-}
-
-fn state(domain: u8) -> u8 {
-    let d = domains();
-    at(&d.states, domain as usize)
-}
-
-fn copy(domain: u8) -> u8 {
-    let d = domains();
-    at(&d.copies, domain as usize)
+    say("fresh: the copy of domain 1 is RUN", copy(1) == 0);
+    say("fresh: the copy of domain 2 is OFF", copy(2) == 3);
 }
 
 // Has the CPU this byte at levels 1 and 2, and 0 at level 3, which is above MAX?
 fn levels_are(row: &[u8], cpu: u8, v: u8) -> bool {
-    (at_level(row, PowerLevel(1), CpuNumber(cpu)) == v)
-        & (at_level(row, PowerLevel(2), CpuNumber(cpu)) == v)
-        & (at_level(row, PowerLevel(3), CpuNumber(cpu)) == 0)
+    let level = |level: u8| at_level(row, PowerLevel(level), CpuNumber(cpu));
+    level(1) == v && level(2) == v && level(3) == 0
 }
 
-fn asks(cpu: u8, v: u8) -> bool {
-    let d = domains();
-    levels_are(&d.requests, cpu, v)
+fn run_requests(s: State) {
+    let asks = |cpu: u8, v: u8| levels_are(&s.domains.requests, cpu, v);
+    say("fresh: CPU 0 asks for RUN at levels 1 and 2", asks(0, 0));
+    for cpu in [1, 3] {
+        say(
+            format_args!(
+                "fresh: CPU {cpu} asks for OFF at levels 1 and 2, and 0 stands at level 3"
+            ),
+            asks(cpu, 3),
+        );
+    }
 }
 
-fn suspend(cpu: u8, v: u8) -> bool {
-    let d = domains();
-    levels_are(&d.suspends, cpu, v)
-}
-
-fn run_states() {
-    say(b"fresh: domain 0, the top, is RUN", state(0) == 0);
-    say(b"fresh: domain 1, over CPU 0, is RUN", state(1) == 0);
-    say(b"fresh: domain 2 is OFF", state(2) == 3);
-}
-
-fn run_copies() {
+fn run_suspends(s: State) {
+    let suspend = |cpu: u8, v: u8| levels_are(&s.domains.suspends, cpu, v);
+    for cpu in [0, 1] {
+        say(
+            format_args!(
+                "fresh: CPU {cpu} has suspend state FFh at levels 1 and 2, and 0 at level 3"
+            ),
+            suspend(cpu, 255),
+        );
+    }
     say(
-        b"fresh: domain 0, the top, has no copy, which is 0",
-        copy(0) == 0,
-    );
-    say(b"fresh: the copy of domain 1 is RUN", copy(1) == 0);
-    say(b"fresh: the copy of domain 2 is OFF", copy(2) == 3);
-}
-
-fn run_requests() {
-    say(b"fresh: CPU 0 asks for RUN at levels 1 and 2", asks(0, 0));
-    say(
-        b"fresh: CPU 1 asks for OFF at levels 1 and 2, and 0 stands at level 3",
-        asks(1, 3),
-    );
-    say(
-        b"fresh: CPU 3 asks for OFF at levels 1 and 2, and 0 stands at level 3",
-        asks(3, 3),
-    );
-}
-
-fn run_suspends() {
-    say(
-        b"fresh: CPU 0 has suspend state FFh at levels 1 and 2, and 0 at level 3",
-        suspend(0, 255),
-    );
-    say(
-        b"fresh: CPU 1 has suspend state FFh at levels 1 and 2, and 0 at level 3",
-        suspend(1, 255),
-    );
-    say(
-        b"fresh: where CPU 4 would be the suspend states are 0",
+        "fresh: where CPU 4 would be the suspend states are 0",
         suspend(4, 0),
     );
 }
 
 pub(super) fn run() {
-    run_cpus();
-    run_more_cpus();
-    run_states();
-    run_copies();
-    run_requests();
-    run_suspends();
+    let s = bench();
+    run_cpus(s);
+    run_domains(s);
+    run_requests(s);
+    run_suspends(s);
 }

@@ -16,9 +16,3 @@ fn main() {
     refusals::run();
     bench::run();
 }
-
-// Writes a statement and whether it holds.
-fn say(statement: &[u8], holds: bool) {
-    write::text(statement);
-    write::verdict(holds);
-}

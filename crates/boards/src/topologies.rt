@@ -1,15 +1,14 @@
 // Topologies at the limits of acceptance. But for MAX and topology the board is the bench board: four states, d 2, primary 0.
-use crate::say;
-use crate::write::{board, number, text, verdict};
+use crate::write::Board;
 use fresh::fresh;
+use lines::say;
+use model::code::number;
 use model::sorts::{CpuNumber, PowerLevel};
 use model::states::Platform;
 
 // The number that a board is answered with.
 fn answer(platform: Platform, primary: u8, topology: &[u8]) -> i32 {
-    let a = fresh(platform, CpuNumber(primary), topology);
-    let code = a.code;
-    code.number()
+    number(fresh(platform, CpuNumber(primary), topology).code)
 }
 
 pub(super) fn platform(max: u8, states: u8, down: u8) -> Platform {
@@ -24,18 +23,20 @@ fn is(max: u8, topology: &[u8], number: i32) -> bool {
     answer(platform(max, 4, 2), 0, topology) == number
 }
 
-// Says that a topology is refused.
-fn refused(max: u8, topology: &[u8]) {
-    board(max, topology);
-    text(b" is 101");
-    verdict(is(max, topology, 101));
+// Says in these words that a topology is answered with this number.
+fn answered(max: u8, topology: &[u8], number: i32, words: &str) {
+    say(
+        format_args!("{} {words}", Board { max, topology }),
+        is(max, topology, number),
+    );
 }
 
-// Says that a topology passes.
+fn refused(max: u8, topology: &[u8]) {
+    answered(max, topology, 101, "is 101");
+}
+
 fn passes(max: u8, topology: &[u8]) {
-    board(max, topology);
-    text(b" passes");
-    verdict(is(max, topology, 0));
+    answered(max, topology, 0, "passes");
 }
 
 fn run_bench() {
@@ -45,9 +46,9 @@ fn run_bench() {
 }
 
 fn run_empty() {
-    refused(1, b"");
-    refused(2, b"");
-    refused(3, b"");
+    refused(1, &[]);
+    refused(2, &[]);
+    refused(3, &[]);
 }
 
 fn run_zeros() {
@@ -71,10 +72,10 @@ fn run_levels() {
 }
 
 fn run_long() {
-    say(b"at MAX 1 255 entries of 1 are 101", is(1, &[1; 255], 101));
-    say(b"at MAX 3 255 entries of 1 are 101", is(3, &[1; 255], 101));
+    say("at MAX 1 255 entries of 1 are 101", is(1, &[1; 255], 101));
+    say("at MAX 3 255 entries of 1 are 101", is(3, &[1; 255], 101));
     say(
-        b"at MAX 3 255 entries of 255 are 101",
+        "at MAX 3 255 entries of 255 are 101",
         is(3, &[255; 255], 101),
     );
 }
@@ -93,27 +94,22 @@ fn run_domains() {
     refused(2, &[1, 16, 1, 1, 1, 1, 1, 1, 1, 1, 1, 1, 1, 1, 1, 1, 1, 1]);
 }
 
-fn primary(cpu: u8) -> i32 {
-    answer(platform(2, 4, 2), cpu, &[1, 2, 2, 2])
-}
-
 fn run_primary() {
-    say(b"on topology 1,2,2,2 primary 3 passes", primary(3) == 0);
-    say(b"on topology 1,2,2,2 primary 4 is 101", primary(4) == 101);
+    let primary = |cpu: u8| answer(platform(2, 4, 2), cpu, &[1, 2, 2, 2]);
+    say("on topology 1,2,2,2 primary 3 passes", primary(3) == 0);
+    say("on topology 1,2,2,2 primary 4 is 101", primary(4) == 101);
     say(
-        b"on topology 1,2,2,2 primary 255 is 101",
+        "on topology 1,2,2,2 primary 255 is 101",
         primary(255) == 101,
     );
 }
 
 // Says that a platform is refused on topology 1,2,2,2 at MAX 2.
 fn platform_refused(states: u8, down: u8) {
-    text(b"at MAX 2 topology 1,2,2,2 with states ");
-    number(states);
-    text(b" and d ");
-    number(down);
-    text(b" is 101");
-    verdict(answer(platform(2, states, down), 0, &[1, 2, 2, 2]) == 101);
+    say(
+        format_args!("at MAX 2 topology 1,2,2,2 with states {states} and d {down} is 101"),
+        answer(platform(2, states, down), 0, &[1, 2, 2, 2]) == 101,
+    );
 }
 
 fn run_platforms() {

@@ -1,11 +1,12 @@
 // The tree of topology 1,2,2,2,3,3,3,4 at MAX 3, worked out by hand. Domain 0 is the top; below it are domains 1 and 2; below domain 1
 // are domains 3 and 4, below domain 2 domains 5 and 6; these four have 3, 3, 3 and 4 CPUs.
-use crate::say;
 use crate::topologies::platform;
-use crate::write::text;
+use lines::say;
 use model::board::TreeAnswer;
-use model::sorts::CpuNumber;
+use model::node::Span;
+use model::sorts::{CpuNumber, DomainNumber};
 use rows::cells::at;
+use state_query::nodes::{child_span_at, cpu_span_at};
 use topology::power_domain_tree;
 
 fn made() -> TreeAnswer {
@@ -13,76 +14,69 @@ fn made() -> TreeAnswer {
 }
 
 fn under(domain: u8, start: u8, end: u8) -> bool {
-    let tree = made().tree;
-    let k = domain as usize;
-    (at(&tree.cpu_starts, k) == start) & (at(&tree.cpu_ends, k) == end)
+    cpu_span_at(made().tree, DomainNumber(domain)) == Span { start, end }
 }
 
 fn below(domain: u8, start: u8, end: u8) -> bool {
-    let tree = made().tree;
-    let k = domain as usize;
-    (at(&tree.child_starts, k) == start) & (at(&tree.child_ends, k) == end)
+    child_span_at(made().tree, DomainNumber(domain)) == Span { start, end }
 }
 
 fn parent(domain: u8) -> u8 {
-    let tree = made().tree;
-    at(&tree.parents, domain as usize)
+    at(&made().tree.parents, domain as usize)
 }
 
 fn over(cpu: u8) -> u8 {
-    let a = made();
-    at(&a.cpu_parents, cpu as usize)
+    at(&made().cpu_parents, cpu as usize)
 }
 
 // Says something of this tree.
-fn of_tree(statement: &[u8], holds: bool) {
-    text(b"1,2,2,2,3,3,3,4 at MAX 3: ");
-    say(statement, holds);
+fn of_tree(statement: &str, holds: bool) {
+    say(format_args!("1,2,2,2,3,3,3,4 at MAX 3: {statement}"), holds);
 }
 
 fn run_cpus() {
-    of_tree(b"domain 0, the top, is over CPUs 0 to 12", under(0, 0, 13));
-    of_tree(b"domain 1 is over CPUs 0 to 5", under(1, 0, 6));
-    of_tree(b"domain 2 is over CPUs 6 to 12", under(2, 6, 13));
+    of_tree("domain 0, the top, is over CPUs 0 to 12", under(0, 0, 13));
+    of_tree("domain 1 is over CPUs 0 to 5", under(1, 0, 6));
+    of_tree("domain 2 is over CPUs 6 to 12", under(2, 6, 13));
 }
 
 fn run_level_1() {
-    of_tree(b"domain 3 is over CPUs 0 to 2", under(3, 0, 3));
-    of_tree(b"domain 4 is over CPUs 3 to 5", under(4, 3, 6));
-    of_tree(b"domain 6 is over CPUs 9 to 12", under(6, 9, 13));
+    of_tree("domain 3 is over CPUs 0 to 2", under(3, 0, 3));
+    of_tree("domain 4 is over CPUs 3 to 5", under(4, 3, 6));
+    of_tree("domain 6 is over CPUs 9 to 12", under(6, 9, 13));
 }
 
 fn run_domains() {
     of_tree(
-        b"directly below domain 0 are domains 1 and 2",
+        "directly below domain 0 are domains 1 and 2",
         below(0, 1, 3),
     );
     of_tree(
-        b"directly below domain 1 are domains 3 and 4",
+        "directly below domain 1 are domains 3 and 4",
         below(1, 3, 5),
     );
     of_tree(
-        b"directly below domain 2 are domains 5 and 6",
+        "directly below domain 2 are domains 5 and 6",
         below(2, 5, 7),
     );
     of_tree(
-        b"directly below domain 3 is no domain, only CPUs",
+        "directly below domain 3 is no domain, only CPUs",
         below(3, 0, 0),
     );
 }
 
 fn run_parents() {
-    of_tree(b"domain 0 has no parent, which is FFh", parent(0) == 255);
-    of_tree(b"the parent of domain 2 is domain 0", parent(2) == 0);
-    of_tree(b"the parent of domain 4 is domain 1", parent(4) == 1);
-    of_tree(b"the parent of domain 5 is domain 2", parent(5) == 2);
+    of_tree("domain 0 has no parent, which is FFh", parent(0) == 255);
+    of_tree("the parent of domain 2 is domain 0", parent(2) == 0);
+    of_tree("the parent of domain 4 is domain 1", parent(4) == 1);
+    of_tree("the parent of domain 5 is domain 2", parent(5) == 2);
 }
 
 fn run_over() {
-    of_tree(b"the level-1 domain over CPU 2 is domain 3", over(2) == 3);
-    of_tree(b"the level-1 domain over CPU 3 is domain 4", over(3) == 4);
-    of_tree(b"the level-1 domain over CPU 8 is domain 5", over(8) == 5);
-    of_tree(b"the level-1 domain over CPU 12 is domain 6", over(12) == 6);
+    of_tree("the level-1 domain over CPU 2 is domain 3", over(2) == 3);
+    of_tree("the level-1 domain over CPU 3 is domain 4", over(3) == 4);
+    of_tree("the level-1 domain over CPU 8 is domain 5", over(8) == 5);
+    of_tree("the level-1 domain over CPU 12 is domain 6", over(12) == 6);
 }
 
 pub(super) fn run() {

@@ -1,4 +1,5 @@
 // The calls' bodies on the parts of a state that they read: no test of the record, and no copy of the whole.
+// Tree, platform, number and record stay four arguments: they stand in four places of a state, and a struct of them would be made for each call.
 #![tactic(auto)]
 
 ghost use Rattle.std.specs.Prelude.{◌≡◌};
@@ -19,6 +20,7 @@ use states::platform::off;
 use states::request::find_highest_non_run_level;
 use up::running_domains;
 
+// By itself beside `enter`, as `finish` beside `boot`: what the two share is the walk; the record and what goes out are each its own.
 // A CPU turns off: OFF is coordinated at all levels.
 pub fn turn_off(
     tree: Tree,

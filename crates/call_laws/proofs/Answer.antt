@@ -1,13 +1,13 @@
 -- How an answer is decided, and what its checks say.
 use mathlib.Core.Bool.{Bool, true, false, true≢false}
 use mathlib.Core.Path.{◌≡◌, refl, sym}
+use Rattle.std.specs.Prelude.{Ok, Err}
 use Rattle.basics.proofs.Tests.{cond_rule}
 use Rattle.model.specs.declared.answer.CallAnswer.{CallAnswer}
-use Rattle.model.specs.declared.code.Code.{Code}
-use Rattle.model.specs.declared.code.Code.TheVariants as code
+use Rattle.model.specs.declared.code.Refusal.{Refusal}
 use Rattle.model.specs.declared.state.State.{State}
 use Rattle.model.specs.Answer.{decided, refused, must}
-use Rattle.model.specs.Numbers.{acceptedb}
+use Rattle.model.specs.Numbers.{Code, acceptedb}
 
 module _ (s : State) (k : Code) (done : CallAnswer) where
   pub decided_yes : acceptedb k ≡ true → decided s k done ≡ done
@@ -19,29 +19,9 @@ module _ (s : State) (k : Code) (done : CallAnswer) where
   decided_no h = simp h
 
 -- an accepted answer is 0 and nothing else
-pub is_accepted : (k : Code) → acceptedb k ≡ true → k ≡ code.Accepted
-is_accepted code.Accepted h = refl
-is_accepted code.NotSupported h = absurd (true≢false (sym h))
-is_accepted code.InvalidParameters h = absurd (true≢false (sym h))
-is_accepted code.Denied h = absurd (true≢false (sym h))
-is_accepted code.AlreadyOn h = absurd (true≢false (sym h))
-is_accepted code.OnPending h = absurd (true≢false (sym h))
-is_accepted code.InternalFailure h = absurd (true≢false (sym h))
-is_accepted code.NotPresent h = absurd (true≢false (sym h))
-is_accepted code.Disabled h = absurd (true≢false (sym h))
-is_accepted code.InvalidAddress h = absurd (true≢false (sym h))
-is_accepted code.BadBoard h = absurd (true≢false (sym h))
-is_accepted code.NotSound h = absurd (true≢false (sym h))
-is_accepted code.NoCaller h = absurd (true≢false (sym h))
-is_accepted code.NotRunning h = absurd (true≢false (sym h))
-is_accepted code.NotDue h = absurd (true≢false (sym h))
-is_accepted code.Unusable h = absurd (true≢false (sym h))
-is_accepted code.OsInitiated h = absurd (true≢false (sym h))
-is_accepted code.Malformed h = absurd (true≢false (sym h))
-is_accepted code.Outside h = absurd (true≢false (sym h))
-is_accepted code.NoRoom h = absurd (true≢false (sym h))
-is_accepted code.SuspendBesideRequest h = absurd (true≢false (sym h))
-is_accepted code.BudgetSpent h = absurd (true≢false (sym h))
+pub is_accepted : (k : Code) → acceptedb k ≡ true → k ≡ Ok tt
+is_accepted (Ok tt) h = refl
+is_accepted (Err r) h = absurd (true≢false (sym h))
 
 -- a property of every refusal that leaves the state as it was
 abbrev pub OfRefusals : (CallAnswer → Type 0) → State → Type 0
@@ -53,12 +33,12 @@ module _ (P : CallAnswer → Type 0) (s : State) (done : CallAnswer) (refusal : 
   Decided k = P (decided s k done)
 
   -- what holds of every refusal and, where the further checks come, of what they decide, holds of what a check decides
-  pub must_rule : (b : Bool) (k rest : Code) → acceptedb k ≡ false → (b ≡ true → Decided rest) → Decided (must b k rest)
+  pub must_rule : (b : Bool) (r : Refusal) (rest : Code) → (b ≡ true → Decided rest) → Decided (must b r rest)
   unfolding decided
-  must_rule true k rest n go = go refl
-  must_rule false k rest n go = simp n (refusal k n)
+  must_rule true r rest go = go refl
+  must_rule false r rest go = refusal (Err r) refl
 
   -- and so of what the last code decides
-  pub last_rule : (k : Code) → (k ≡ code.Accepted → P done) → Decided k
+  pub last_rule : (k : Code) → (k ≡ Ok tt → P done) → Decided k
   unfolding decided
   last_rule k acts = cond_rule P (acceptedb k) (λ h. acts (is_accepted k h)) (refusal k)

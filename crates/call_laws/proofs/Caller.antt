@@ -4,11 +4,12 @@ use mathlib.Core.Bool.{true, false}
 use mathlib.Core.Path.{◌≡◌, refl}
 use borrow.Author.Tests.{ltb-true, lt-ltb, le-ltb}
 use lib.Dec.{ltb}
+use Rattle.std.specs.Prelude.{Err}
 use Rattle.basics.proofs.Tests.{cond_rule}
 use Rattle.model.specs.declared.answer.CallAnswer.{CallAnswer}
 use Rattle.model.specs.declared.call.Call.{Call}
-use Rattle.model.specs.declared.code.Code.{Code}
-use Rattle.model.specs.declared.code.Code.TheVariants as code
+use Rattle.model.specs.Numbers.{Code}
+use Rattle.model.specs.declared.code.Refusal.TheVariants as code
 use Rattle.model.specs.declared.state.State.{State}
 use Rattle.model.specs.Answer.{decided, refused, must}
 use Rattle.model.specs.Calls.{runningb, for_cpu, for_caller, body_of, tested, call_of}
@@ -18,7 +19,7 @@ use Rattle.call_laws.proofs.Answer.{OfRefusals, Decided, must_rule}
 
 -- every call first: 102, and else it is as on a state that is known to be sound
 module _ (s : State) (k : Call) where
-  pub call_unsound : soundb s ≡ false → call_of s k ≡ refused s code.NotSound
+  pub call_unsound : soundb s ≡ false → call_of s k ≡ refused s (Err code.NotSound)
   call_unsound h = simp h
 
   pub call_known : soundb s ≡ true → call_of s k ≡ body_of s k
@@ -38,12 +39,12 @@ module _ (s : State) (c : ℕ) where
   -- the outcomes of these checks, whatever the call
   module _ (k : Code) (done : CallAnswer) where
     pub no_caller : soundb s ≡ true → cpu_count_of s ≤ c →
-        tested (soundb s) s (decided s (for_cpu s c k) done) ≡ refused s code.NoCaller
+        tested (soundb s) s (decided s (for_cpu s c k) done) ≡ refused s (Err code.NoCaller)
     unfolding decided
     no_caller h e = simp (h, le-ltb _ _ e)
 
     pub not_running : Known → runningb (cpu_at s c) ≡ false →
-        tested (soundb s) s (decided s (for_caller s c k) done) ≡ refused s code.NotRunning
+        tested (soundb s) s (decided s (for_caller s c k) done) ≡ refused s (Err code.NotRunning)
     unfolding decided
     not_running h e = simp (h.sound, lt-ltb _ _ h.exists, e)
 
@@ -60,13 +61,13 @@ module _ (P : CallAnswer → Type 0) (s : State) (done : CallAnswer) (refusal : 
       P (tested (soundb s) s (decided s (for_cpu s c k) done))
   known_rule k go =
       cond_rule P (soundb s)
-      (λ a. must_rule P s done refusal (ltb c (cpu_count_of s)) code.NoCaller _ refl
+      (λ a. must_rule P s done refusal (ltb c (cpu_count_of s)) code.NoCaller _
       (λ b. go (record { sound = a; exists = ltb-true _ _ b })))
-      (λ _. refusal code.NotSound refl)
+      (λ _. refusal (Err code.NotSound) refl)
 
   pub runs_rule : (k : Code) → (Runs s c → Decided P s done refusal k) →
       P (tested (soundb s) s (decided s (for_caller s c k) done))
   runs_rule k go =
       known_rule (must (runningb (cpu_at s c)) code.NotRunning k)
-      (λ a. must_rule P s done refusal (runningb (cpu_at s c)) code.NotRunning _ refl
+      (λ a. must_rule P s done refusal (runningb (cpu_at s c)) code.NotRunning _
       (λ b. go (record { known = a; running = b })))

@@ -1,9 +1,10 @@
 -- Set mode: its outcomes, in the order of the checks, and its rule.
 use mathlib.Core.Bool.{Bool, true, false}
 use mathlib.Core.Path.{◌≡◌, refl, sym, ap, ◌∙◌}
+use Rattle.std.specs.Prelude.{Ok, Err}
 use Rattle.model.specs.declared.answer.CallAnswer.{CallAnswer}
 use Rattle.model.specs.declared.call.Call.TheVariants as call
-use Rattle.model.specs.declared.code.Code.TheVariants as code
+use Rattle.model.specs.declared.code.Refusal.TheVariants as code
 use Rattle.model.specs.declared.sorts.CpuNumber.{CpuNumber}
 use Rattle.model.specs.declared.state.State.{State}
 use Rattle.model.specs.declared.state.SuspendMode.{SuspendMode}
@@ -32,12 +33,12 @@ module _ (s : State) (caller : CpuNumber) (feature : Bool) (wanted : SuspendMode
   mode_done = accepted nothing_out (with_mode s wanted)
 
   module _ (r : Runs s caller.0) where
-    pub mode_absent : feature ≡ false → answer_to ≡ refused s code.NotSupported
+    pub mode_absent : feature ≡ false → answer_to ≡ refused s (Err code.NotSupported)
     unfolding set_suspend_mode_of decided
     mode_absent h = runs_on s caller.0 _ mode_done r ∙ simp h
 
     module _ (h₁ : feature ≡ true) where
-      pub mode_denied : may ≡ false → answer_to ≡ refused s code.Denied
+      pub mode_denied : may ≡ false → answer_to ≡ refused s (Err code.Denied)
       unfolding set_suspend_mode_of decided
       mode_denied h = runs_on s caller.0 _ mode_done r ∙ simp (h₁, h)
 
@@ -60,6 +61,6 @@ module _ (s : State) (caller : CpuNumber) (feature : Bool) (wanted : SuspendMode
   unfolding set_suspend_mode_of
   mode_rule P refusal acts =
       runs_rule P s mode_done refusal caller.0 _
-      (λ r. must_rule P s mode_done refusal feature code.NotSupported _ refl
-      (λ _. must_rule P s mode_done refusal may code.Denied _ refl
-      (λ a. last_rule P s mode_done refusal code.Accepted (λ _. acts (record { caller_runs = r; allowed = a })))))
+      (λ r. must_rule P s mode_done refusal feature code.NotSupported _
+      (λ _. must_rule P s mode_done refusal may code.Denied _
+      (λ a. last_rule P s mode_done refusal (Ok tt) (λ _. acts (record { caller_runs = r; allowed = a })))))

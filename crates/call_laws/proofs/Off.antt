@@ -2,9 +2,10 @@
 use Prim.Native.Nat.{ℕ}
 use mathlib.Core.Bool.{true, false}
 use mathlib.Core.Path.{◌≡◌, ◌∙◌}
+use Rattle.std.specs.Prelude.{Ok}
 use Rattle.model.specs.declared.answer.CallAnswer.{CallAnswer}
 use Rattle.model.specs.declared.call.Call.TheVariants as call
-use Rattle.model.specs.declared.code.Code.TheVariants as code
+use Rattle.model.specs.declared.code.Refusal.TheVariants as code
 use Rattle.model.specs.declared.sorts.CpuNumber.{CpuNumber}
 use Rattle.model.specs.declared.state.State.{State}
 use Rattle.model.specs.Answer.{refused}
@@ -35,7 +36,7 @@ module _ (s : State) (caller : CpuNumber) (answer : ℕ) where
   -- what holds where off is accepted
   pub record OffAccepted : Type 0 where
     pub caller_runs : Runs s caller.0
-    pub answered : answer_of answer ≡ code.Accepted
+    pub answered : answer_of answer ≡ Ok tt
 
   pub off_rule : (P : CallAnswer → Type 0) → OfRefusals P s → (OffAccepted → P off_done) → P answer_to
   unfolding cpu_off_of

@@ -3,9 +3,10 @@ use Prim.Native.Nat.{ℕ, ◌<◌, ◌≤◌}
 use mathlib.Core.Bool.{Bool, true, false, not, true≢false}
 use mathlib.Core.Path.{◌≡◌, refl, sym, ◌∙◌}
 use borrow.Author.Tests.{ltb-true, lt-ltb, le-ltb}
+use Rattle.std.specs.Prelude.{Ok, Err}
 use Rattle.model.specs.declared.answer.CallAnswer.{CallAnswer}
 use Rattle.model.specs.declared.call.Call.TheVariants as call
-use Rattle.model.specs.declared.code.Code.TheVariants as code
+use Rattle.model.specs.declared.code.Refusal.TheVariants as code
 use Rattle.model.specs.declared.cpu.AffinityInfo.{AffinityInfo}
 use Rattle.model.specs.declared.cpu.AffinityInfo.TheVariants as affinity
 use Rattle.model.specs.declared.cpu.EntryPoint.{EntryPoint}
@@ -39,26 +40,26 @@ module _ (s : State) (caller target : CpuNumber) (e : EntryPoint) (good : Bool) 
   on_done = accepted nothing_out (with_cpu s target.0 (pended_of (cpu_at s target.0) e))
 
   module _ (r : Runs s caller.0) where
-    pub on_unusable : usableb answer ≡ false → answer_to ≡ refused s code.Unusable
+    pub on_unusable : usableb answer ≡ false → answer_to ≡ refused s (Err code.Unusable)
     unfolding cpu_on_of decided
     on_unusable h = runs_on s caller.0 _ on_done r ∙ simp h
 
     module _ (h₁ : usableb answer ≡ true) where
-      pub on_no_target : cpu_count_of s ≤ target.0 → answer_to ≡ refused s code.InvalidParameters
+      pub on_no_target : cpu_count_of s ≤ target.0 → answer_to ≡ refused s (Err code.InvalidParameters)
       unfolding cpu_on_of decided
       on_no_target h = runs_on s caller.0 _ on_done r ∙ simp (h₁, le-ltb _ _ h)
 
       module _ (h₂ : target.0 < cpu_count_of s) where
-        pub on_bad_address : good ≡ false → answer_to ≡ refused s code.InvalidAddress
+        pub on_bad_address : good ≡ false → answer_to ≡ refused s (Err code.InvalidAddress)
         unfolding cpu_on_of decided
         on_bad_address h = runs_on s caller.0 _ on_done r ∙ simp (h₁, lt-ltb _ _ h₂, h)
 
         module _ (h₃ : good ≡ true) where
-          pub on_already : affinity_of ≡ affinity.On → answer_to ≡ refused s code.AlreadyOn
+          pub on_already : affinity_of ≡ affinity.On → answer_to ≡ refused s (Err code.AlreadyOn)
           unfolding cpu_on_of decided
           on_already h = runs_on s caller.0 _ on_done r ∙ simp (h₁, lt-ltb _ _ h₂, h₃, h)
 
-          pub on_pending : affinity_of ≡ affinity.OnPending → answer_to ≡ refused s code.OnPending
+          pub on_pending : affinity_of ≡ affinity.OnPending → answer_to ≡ refused s (Err code.OnPending)
           unfolding cpu_on_of decided
           on_pending h = runs_on s caller.0 _ on_done r ∙ simp (h₁, lt-ltb _ _ h₂, h₃, h)
 
@@ -79,7 +80,7 @@ module _ (s : State) (caller target : CpuNumber) (e : EntryPoint) (good : Bool) 
     pub exists : target.0 < cpu_count_of s
     pub good_address : good ≡ true
     pub off : affinity_of ≡ affinity.Off
-    pub answered : answer_of answer ≡ code.Accepted
+    pub answered : answer_of answer ≡ Ok tt
 
   -- what holds of every refusal, and of what an accepted on does, holds of its answer
   pub on_rule : (P : CallAnswer → Type 0) → OfRefusals P s → (OnAccepted → P on_done) →
@@ -87,11 +88,11 @@ module _ (s : State) (caller target : CpuNumber) (e : EntryPoint) (good : Bool) 
   unfolding cpu_on_of
   on_rule P refusal acts =
       runs_rule P s on_done refusal caller.0 _
-      (λ r. must_rule P s on_done refusal (usableb answer) code.Unusable _ refl
-      (λ _. must_rule P s on_done refusal (ltb target.0 (cpu_count_of s)) code.InvalidParameters _ refl
-      (λ a. must_rule P s on_done refusal good code.InvalidAddress _ refl
-      (λ b. must_rule P s on_done refusal (not (onb affinity_of)) code.AlreadyOn _ refl
-      (λ c. must_rule P s on_done refusal (not (pendingb affinity_of)) code.OnPending _ refl
+      (λ r. must_rule P s on_done refusal (usableb answer) code.Unusable _
+      (λ _. must_rule P s on_done refusal (ltb target.0 (cpu_count_of s)) code.InvalidParameters _
+      (λ a. must_rule P s on_done refusal good code.InvalidAddress _
+      (λ b. must_rule P s on_done refusal (not (onb affinity_of)) code.AlreadyOn _
+      (λ c. must_rule P s on_done refusal (not (pendingb affinity_of)) code.OnPending _
       (λ d. last_rule P s on_done refusal (answer_of answer)
       (λ k. acts
       (record { caller_runs = r; exists = ltb-true _ _ a; good_address = b; off = is_off_lem _ c d; answered = k }))))))))

@@ -1,11 +1,12 @@
 -- Suspend: its outcomes, in the order of the checks, and its rule.
 use mathlib.Core.Bool.{Bool, true, false, true≢false}
 use mathlib.Core.Path.{◌≡◌, refl, sym, ◌∙◌}
+use Rattle.std.specs.Prelude.{Ok, Err}
 use Rattle.basics.proofs.Tests.{cond_rule}
 use Rattle.model.specs.declared.answer.CallAnswer.{CallAnswer}
 use Rattle.model.specs.declared.answer.Notice.TheVariants as notice
 use Rattle.model.specs.declared.call.Call.TheVariants as call
-use Rattle.model.specs.declared.code.Code.TheVariants as code
+use Rattle.model.specs.declared.code.Refusal.TheVariants as code
 use Rattle.model.specs.declared.cpu.EntryPoint.{EntryPoint}
 use Rattle.model.specs.declared.sorts.CpuNumber.{CpuNumber}
 use Rattle.model.specs.declared.state.State.{State}
@@ -40,13 +41,13 @@ module _ (s : State) (caller : CpuNumber) (pending : Bool) (e : EntryPoint) (ask
 
   module _ (r : Runs s caller.0) where
     pub suspend_invalid : is_valid_suspend_requestb (platform_at s) asked ≡ false →
-        answer_to ≡ refused s code.InvalidParameters
+        answer_to ≡ refused s (Err code.InvalidParameters)
     unfolding cpu_suspend_start_of decided
     suspend_invalid h = runs_on s caller.0 _ may r ∙ simp h
 
     module _ (h₁ : is_valid_suspend_requestb (platform_at s) asked ≡ true) where
       pub suspend_os_initiated : s.mode ≡ mode.OsInitiated →
-          answer_to ≡ refused s code.OsInitiated
+          answer_to ≡ refused s (Err code.OsInitiated)
       unfolding cpu_suspend_start_of decided
       suspend_os_initiated h = runs_on s caller.0 _ may r ∙ simp (h₁, h)
 
@@ -70,8 +71,8 @@ module _ (s : State) (caller : CpuNumber) (pending : Bool) (e : EntryPoint) (ask
   unfolding cpu_suspend_start_of
   suspend_rule P refusal waits acts =
       runs_rule P s may refusal caller.0 _
-      (λ r. must_rule P s may refusal (is_valid_suspend_requestb (platform_at s) asked) code.InvalidParameters _ refl
-      (λ a. must_rule P s may refusal (platform_coordinatedb s.mode) code.OsInitiated _ refl
-      (λ b. last_rule P s may refusal code.Accepted
+      (λ r. must_rule P s may refusal (is_valid_suspend_requestb (platform_at s) asked) code.InvalidParameters _
+      (λ a. must_rule P s may refusal (platform_coordinatedb s.mode) code.OsInitiated _
+      (λ b. last_rule P s may refusal (Ok tt)
       (λ _. let facts : SuspendAccepted = record { caller_runs = r; valid = a; coordinates = is_platform_coordinated _ b } in
       cond_rule P pending (waits facts) (acts facts)))))

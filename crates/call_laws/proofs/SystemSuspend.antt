@@ -1,11 +1,12 @@
 -- System suspend: its outcomes, in the order of the checks, and its rule.
 use mathlib.Core.Bool.{Bool, true, false}
 use mathlib.Core.Path.{◌≡◌, refl, ◌∙◌}
+use Rattle.std.specs.Prelude.{Ok, Err}
 use Rattle.basics.proofs.Tests.{cond_rule}
 use Rattle.model.specs.declared.answer.CallAnswer.{CallAnswer}
 use Rattle.model.specs.declared.answer.Notice.TheVariants as notice
 use Rattle.model.specs.declared.call.Call.TheVariants as call
-use Rattle.model.specs.declared.code.Code.TheVariants as code
+use Rattle.model.specs.declared.code.Refusal.TheVariants as code
 use Rattle.model.specs.declared.cpu.EntryPoint.{EntryPoint}
 use Rattle.model.specs.declared.sorts.CpuNumber.{CpuNumber}
 use Rattle.model.specs.declared.state.State.{State}
@@ -35,37 +36,37 @@ module _ (s : State) (caller : CpuNumber) (feature pending good : Bool) (e : Ent
   p = platform_at s
 
   module _ (r : Runs s caller.0) where
-    pub system_suspend_absent : feature ≡ false → answer_to ≡ refused s code.NotSupported
+    pub system_suspend_absent : feature ≡ false → answer_to ≡ refused s (Err code.NotSupported)
     unfolding system_suspend_of decided
     system_suspend_absent h = runs_on s caller.0 _ may r ∙ simp h
 
     module _ (h₁ : feature ≡ true) where
-      pub system_suspend_not_last : others_offb s caller.0 ≡ false → answer_to ≡ refused s code.Denied
+      pub system_suspend_not_last : others_offb s caller.0 ≡ false → answer_to ≡ refused s (Err code.Denied)
       unfolding system_suspend_of decided
       system_suspend_not_last h = runs_on s caller.0 _ may r ∙ simp (h₁, h)
 
       module _ (h₂ : others_offb s caller.0 ≡ true) where
-        pub system_suspend_bad_address : good ≡ false → answer_to ≡ refused s code.InvalidAddress
+        pub system_suspend_bad_address : good ≡ false → answer_to ≡ refused s (Err code.InvalidAddress)
         unfolding system_suspend_of decided
         system_suspend_bad_address h = runs_on s caller.0 _ may r ∙ simp (h₁, h₂, h)
 
         module _ (h₃ : good ≡ true) where
-          pub system_suspend_out_of_range : states_in_rangeb p asked ≡ false → answer_to ≡ refused s code.Unusable
+          pub system_suspend_out_of_range : states_in_rangeb p asked ≡ false → answer_to ≡ refused s (Err code.Unusable)
           unfolding system_suspend_of decided
           system_suspend_out_of_range h = runs_on s caller.0 _ may r ∙ simp (h₁, h₂, h₃, h)
 
           module _ (h₄ : states_in_rangeb p asked ≡ true) where
-            pub system_suspend_below_max : at_maxb p asked ≡ false → answer_to ≡ refused s code.Denied
+            pub system_suspend_below_max : at_maxb p asked ≡ false → answer_to ≡ refused s (Err code.Denied)
             unfolding system_suspend_of decided
             system_suspend_below_max h = runs_on s caller.0 _ may r ∙ simp (h₁, h₂, h₃, h₄, h)
 
             module _ (h₅ : at_maxb p asked ≡ true) where
-              pub system_suspend_invalid : powers_downb p asked ≡ false → answer_to ≡ refused s code.Unusable
+              pub system_suspend_invalid : powers_downb p asked ≡ false → answer_to ≡ refused s (Err code.Unusable)
               unfolding system_suspend_of decided
               system_suspend_invalid h = runs_on s caller.0 _ may r ∙ simp (h₁, h₂, h₃, h₄, h₅, h)
 
               module _ (h₆ : powers_downb p asked ≡ true) where
-                pub system_suspend_os_initiated : s.mode ≡ mode.OsInitiated → answer_to ≡ refused s code.OsInitiated
+                pub system_suspend_os_initiated : s.mode ≡ mode.OsInitiated → answer_to ≡ refused s (Err code.OsInitiated)
                 unfolding system_suspend_of decided
                 system_suspend_os_initiated h = runs_on s caller.0 _ may r ∙ simp (h₁, h₂, h₃, h₄, h₅, h₆, h)
 
@@ -92,14 +93,14 @@ module _ (s : State) (caller : CpuNumber) (feature pending good : Bool) (e : Ent
   unfolding system_suspend_of
   system_suspend_rule P refusal waits acts =
       runs_rule P s may refusal caller.0 _
-      (λ r. must_rule P s may refusal feature code.NotSupported _ refl
-      (λ _. must_rule P s may refusal (others_offb s caller.0) code.Denied _ refl
-      (λ a. must_rule P s may refusal good code.InvalidAddress _ refl
-      (λ _. must_rule P s may refusal (states_in_rangeb p asked) code.Unusable _ refl
-      (λ _. must_rule P s may refusal (at_maxb p asked) code.Denied _ refl
-      (λ b. must_rule P s may refusal (powers_downb p asked) code.Unusable _ refl
-      (λ c. must_rule P s may refusal (platform_coordinatedb s.mode) code.OsInitiated _ refl
-      (λ d. last_rule P s may refusal code.Accepted
+      (λ r. must_rule P s may refusal feature code.NotSupported _
+      (λ _. must_rule P s may refusal (others_offb s caller.0) code.Denied _
+      (λ a. must_rule P s may refusal good code.InvalidAddress _
+      (λ _. must_rule P s may refusal (states_in_rangeb p asked) code.Unusable _
+      (λ _. must_rule P s may refusal (at_maxb p asked) code.Denied _
+      (λ b. must_rule P s may refusal (powers_downb p asked) code.Unusable _
+      (λ c. must_rule P s may refusal (platform_coordinatedb s.mode) code.OsInitiated _
+      (λ d. last_rule P s may refusal (Ok tt)
       (λ _. let facts : SystemSuspendAccepted = record {
         caller_runs = r;
         last = a;

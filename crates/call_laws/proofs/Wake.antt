@@ -1,9 +1,10 @@
 -- Finish and boot: their outcomes and their rules.
 use mathlib.Core.Bool.{true, false}
 use mathlib.Core.Path.{◌≡◌, refl, ◌∙◌}
+use Rattle.std.specs.Prelude.{Ok, Err}
 use Rattle.model.specs.declared.answer.CallAnswer.{CallAnswer}
 use Rattle.model.specs.declared.call.Call.TheVariants as call
-use Rattle.model.specs.declared.code.Code.TheVariants as code
+use Rattle.model.specs.declared.code.Refusal.TheVariants as code
 use Rattle.model.specs.declared.cpu.CpuPowerNode.{CpuPowerNode}
 use Rattle.model.specs.declared.sorts.CpuNumber.{CpuNumber}
 use Rattle.model.specs.declared.state.State.{State}
@@ -34,7 +35,7 @@ module _ (s : State) (cpu : CpuNumber) where
   boot_up = refl
 
   module _ (r : Known s cpu.0) where
-    pub finish_not_due : finish_dueb node ≡ false → call_of s (call.Finish cpu) ≡ refused s code.NotDue
+    pub finish_not_due : finish_dueb node ≡ false → call_of s (call.Finish cpu) ≡ refused s (Err code.NotDue)
     unfolding cpu_suspend_finish_of decided
     finish_not_due h = known_on s cpu.0 _ finish_done r ∙ simp h
 
@@ -42,7 +43,7 @@ module _ (s : State) (cpu : CpuNumber) where
     unfolding cpu_suspend_finish_of decided
     finish_accepted h = known_on s cpu.0 _ finish_done r ∙ simp h
 
-    pub boot_not_due : boot_dueb (platform_at s) node ≡ false → call_of s (call.Boot cpu) ≡ refused s code.NotDue
+    pub boot_not_due : boot_dueb (platform_at s) node ≡ false → call_of s (call.Boot cpu) ≡ refused s (Err code.NotDue)
     unfolding handle_cpu_boot_of decided
     boot_not_due h = known_on s cpu.0 _ boot_done r ∙ simp h
 
@@ -59,8 +60,8 @@ module _ (s : State) (cpu : CpuNumber) where
   unfolding cpu_suspend_finish_of
   finish_rule P refusal acts =
       known_rule P s finish_done refusal cpu.0 _
-      (λ r. must_rule P s finish_done refusal (finish_dueb node) code.NotDue _ refl
-      (λ a. last_rule P s finish_done refusal code.Accepted (λ _. acts (record { known = r; due = a }))))
+      (λ r. must_rule P s finish_done refusal (finish_dueb node) code.NotDue _
+      (λ a. last_rule P s finish_done refusal (Ok tt) (λ _. acts (record { known = r; due = a }))))
 
   pub record BootAccepted : Type 0 where
     pub known : Known s cpu.0
@@ -70,5 +71,5 @@ module _ (s : State) (cpu : CpuNumber) where
   unfolding handle_cpu_boot_of
   boot_rule P refusal acts =
       known_rule P s boot_done refusal cpu.0 _
-      (λ r. must_rule P s boot_done refusal (boot_dueb (platform_at s) node) code.NotDue _ refl
-      (λ a. last_rule P s boot_done refusal code.Accepted (λ _. acts (record { known = r; due = a }))))
+      (λ r. must_rule P s boot_done refusal (boot_dueb (platform_at s) node) code.NotDue _
+      (λ a. last_rule P s boot_done refusal (Ok tt) (λ _. acts (record { known = r; due = a }))))

@@ -29,6 +29,7 @@ pub(super) fn entry() -> EntryPoint {
     }
 }
 
+// The same as `of` in the program cases: the two programs share no crate that it would fit.
 pub(super) fn states(level0: u8, level1: u8, level2: u8) -> CompositeState {
     CompositeState {
         level0,

@@ -1,8 +1,9 @@
 // The entry that a CPU's record holds.
-use crate::say;
 use cpu::{new, pop_entry_point};
-use cpu_lent::with_entry_point;
-use model::cpu::{CpuPowerNode, Entry, EntryPoint};
+use cpu_lent::setters::set_entry_point;
+use lines::say;
+use model::code::Refusal;
+use model::cpu::{CpuPowerNode, EntryPoint};
 use model::sorts::DomainNumber;
 
 fn entry(address: u64) -> EntryPoint {
@@ -14,39 +15,26 @@ fn entry(address: u64) -> EntryPoint {
 
 // A CPU that holds the entry at 4096.
 fn holder() -> CpuPowerNode {
-    with_entry_point(new(DomainNumber(1), 3), entry(4096)).cpu
-}
-
-fn holds(held: Entry, address: u64) -> bool {
-    match held {
-        Entry::Nothing => false,
-        Entry::Held(e) => (e.address == address) & (e.context == 7),
-    }
-}
-
-fn nothing(held: Entry) -> bool {
-    match held {
-        Entry::Nothing => true,
-        Entry::Held(_) => false,
-    }
+    let mut cpu = new(DomainNumber(1), 3);
+    let _ = set_entry_point(&mut cpu, entry(4096));
+    cpu
 }
 
 fn run_held() {
-    let over = with_entry_point(holder(), entry(8192));
-    let code = over.code;
-    let cpu = over.cpu;
-    let held = cpu.entry_point;
-    say(b"an entry over a held one is 102", code.number() == 102);
-    say(b"the held one stays", holds(held, 4096));
+    let mut cpu = holder();
+    let over = set_entry_point(&mut cpu, entry(8192));
+    say(
+        "an entry over a held one is 102",
+        over == Err(Refusal::NotSound),
+    );
+    say("the held one stays", cpu.entry_point == Some(entry(4096)));
 }
 
 fn run_popped() {
-    let popped = pop_entry_point(holder());
-    let entry = popped.entry;
-    let cpu = popped.cpu;
-    let held = cpu.entry_point;
-    say(b"it is handed out", holds(entry, 4096));
-    say(b"and cleared", nothing(held));
+    let mut cpu = holder();
+    let popped = pop_entry_point(&mut cpu);
+    say("it is handed out", popped == Some(entry(4096)));
+    say("and cleared", cpu.entry_point.is_none());
 }
 
 pub(super) fn run() {

@@ -19,13 +19,3 @@ fn main() {
     entries::run();
     walks::run();
 }
-
-// Writes a statement and whether it holds.
-fn say(statement: &[u8], holds: bool) {
-    io::write_all(1, statement);
-    if holds {
-        io::write_all(1, b": yes\n");
-    } else {
-        io::write_all(1, b": no\n");
-    }
-}

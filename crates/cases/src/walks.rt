@@ -1,8 +1,8 @@
 // The last-CPU and the all-on test, at the last CPU of a table and past its end.
-use crate::say;
 use cpu::{new, set_affinity_info};
 use cpu_rows::with_cpu_record;
 use cpu_walk::{all_on_in, others_off_in};
+use lines::say;
 use model::cpu::{AffinityInfo, CpuPowerNode};
 use model::limits::CPUS;
 use model::sorts::{CpuNumber, DomainNumber};
@@ -29,15 +29,15 @@ fn all_on(count: u8) -> bool {
 
 pub(super) fn run() {
     say(
-        b"CPU 15 is OnPending, so not all others are Off",
-        others_off(15, 0) & (others_off(16, 0) == false),
+        "CPU 15 is OnPending, so not all others are Off",
+        others_off(15, 0) && !others_off(16, 0),
     );
     say(
-        b"it may ask itself; a seventeenth CPU is not Off",
-        others_off(16, 15) & (others_off(17, 15) == false),
+        "it may ask itself; a seventeenth CPU is not Off",
+        others_off(16, 15) && !others_off(17, 15),
     );
     say(
-        b"CPU 15 is Off, so not all are On",
-        all_on(15) & (all_on(16) == false),
+        "CPU 15 is Off, so not all are On",
+        all_on(15) && !all_on(16),
     );
 }

@@ -1,27 +1,21 @@
 ghost use Rattle.std.specs.Prelude.{◌≡◌};
 ghost use Rattle.model.specs.Calls.{mode_allowedb, mode_code, platform_coordinatedb, same_modeb};
 
-use model::code::Code;
+use model::code::Refusal;
 use model::state::SuspendMode;
 
 // Is the mode platform-coordinated?
 pub fn is_platform_coordinated(mode: SuspendMode) -> bool
     ensures { result ≡ platform_coordinatedb mode }
 {
-    match mode {
-        SuspendMode::PlatformCoordinated => true,
-        SuspendMode::OsInitiated => false,
-    }
+    mode == SuspendMode::PlatformCoordinated
 }
 
 // Are the modes the same?
 fn is_same_mode(a: SuspendMode, b: SuspendMode) -> bool
     ensures { result ≡ same_modeb a b }
 {
-    match a {
-        SuspendMode::PlatformCoordinated => is_platform_coordinated(b),
-        SuspendMode::OsInitiated => !is_platform_coordinated(b),
-    }
+    a == b
 }
 
 // May the mode be set: platform-coordinated if every other CPU is Off, OS-initiated if all are On or every other is Off?
@@ -41,17 +35,17 @@ pub fn mode_code(
     wanted: SuspendMode,
     last: bool,
     all: bool,
-) -> Code
+) -> Result<(), Refusal>
     ensures { result ≡ mode_code feature current wanted last all }
 {
-    if feature {} else {
-        return Code::NotSupported;
+    if !feature {
+        return Err(Refusal::NotSupported);
     }
     if is_same_mode(current, wanted) {
-        return Code::Accepted;
+        return Ok(());
     }
-    if is_mode_allowed(wanted, last, all) {} else {
-        return Code::Denied;
+    if !is_mode_allowed(wanted, last, all) {
+        return Err(Refusal::Denied);
     }
-    Code::Accepted
+    Ok(())
 }

@@ -3,7 +3,7 @@ ghost use Rattle.model.specs.Calls.{system_suspend_code};
 
 use crate::mode::is_platform_coordinated;
 use composite::{found_at, is_down};
-use model::code::Code;
+use model::code::Refusal;
 use model::state::SuspendMode;
 use model::states::{CompositeState, Platform};
 use states::composite::{highest_level_state, states_in_range};
@@ -18,31 +18,31 @@ pub fn system_suspend_code(
     last: bool,
     good: bool,
     asked: CompositeState,
-) -> Code
+) -> Result<(), Refusal>
     ensures { result ≡ system_suspend_code p mode feature last good asked }
 {
-    if feature {} else {
-        return Code::NotSupported;
+    if !feature {
+        return Err(Refusal::NotSupported);
     }
-    if last {} else {
-        return Code::Denied;
+    if !last {
+        return Err(Refusal::Denied);
     }
-    if good {} else {
-        return Code::InvalidAddress;
+    if !good {
+        return Err(Refusal::InvalidAddress);
     }
-    if states_in_range(p, asked) {} else {
-        return Code::Unusable;
+    if !states_in_range(p, asked) {
+        return Err(Refusal::Unusable);
     }
     let at_max = found_at(find_highest_non_run_level(p, asked), p.max);
     let valid = is_valid_suspend_request(p, asked) & is_down(p, highest_level_state(p, asked));
-    if at_max {} else {
-        return Code::Denied;
+    if !at_max {
+        return Err(Refusal::Denied);
     }
-    if valid {} else {
-        return Code::Unusable;
+    if !valid {
+        return Err(Refusal::Unusable);
     }
-    if is_platform_coordinated(mode) {} else {
-        return Code::OsInitiated;
+    if !is_platform_coordinated(mode) {
+        return Err(Refusal::OsInitiated);
     }
-    Code::Accepted
+    Ok(())
 }

@@ -1,14 +1,14 @@
 // Composite states that are made, and what a search among their levels found.
 #![tactic(auto)]
 
-ghost use Rattle.std.specs.Prelude.{cond, ◌≡◌};
+ghost use Rattle.std.specs.Prelude.{◌≡◌};
 ghost use Rattle.model.specs.Composite.{all_off, all_run, found_atb, found_of, off_at_level, set_state_at};
 ghost use Rattle.model.specs.Sound.{entry_dueb};
 ghost use Rattle.model.specs.States.{downb};
 
 use model::cpu::AffinityInfo;
 use model::sorts::PowerLevel;
-use model::states::{CompositeState, FoundLevel, Platform};
+use model::states::{CompositeState, Platform};
 use states::kinds::{kind, power_down};
 use states::platform::off;
 
@@ -64,45 +64,29 @@ pub fn all_off(p: Platform) -> CompositeState
     }
 }
 
-// One of two bytes.
-fn pick(first: bool, a: u8, b: u8) -> u8
-    ensures { result ≡ cond first a b }
-{
-    if first {
-        return a;
-    }
-    b
-}
-
 // The states with another one at a level; past the last level nothing is stored.
 pub fn set_state_at(c: CompositeState, level: PowerLevel, state: u8) -> CompositeState
     ensures { result ≡ set_state_at c level.0 state }
 {
-    let l = level.0;
-    CompositeState {
-        level0: pick(l == 0, state, c.level0),
-        level1: pick(l == 1, state, c.level1),
-        level2: pick(l == 2, state, c.level2),
-        level3: pick(l == 3, state, c.level3),
+    match level.0 {
+        0 => CompositeState { level0: state, ..c },
+        1 => CompositeState { level1: state, ..c },
+        2 => CompositeState { level2: state, ..c },
+        3 => CompositeState { level3: state, ..c },
+        _ => c,
     }
 }
 
 // The level that was found; 0 where there is none.
-pub fn level_found(found: FoundLevel) -> PowerLevel
+pub fn level_found(found: Option<PowerLevel>) -> PowerLevel
     ensures { result ≡ record { 0 = found_of found } }
 {
-    match found {
-        FoundLevel::At(l) => l,
-        FoundLevel::Nothing => PowerLevel(0),
-    }
+    found.unwrap_or(PowerLevel(0))
 }
 
 // Is the level that was found this one?
-pub fn found_at(found: FoundLevel, level: PowerLevel) -> bool
+pub fn found_at(found: Option<PowerLevel>, level: PowerLevel) -> bool
     ensures { result ≡ found_atb found level.0 }
 {
-    match found {
-        FoundLevel::At(l) => l.0 == level.0,
-        FoundLevel::Nothing => false,
-    }
+    found == Some(level)
 }

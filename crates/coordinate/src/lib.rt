@@ -21,9 +21,9 @@ use rows::cells::{at, put, put_if};
 use states::composite::state_at;
 
 // One level: stores the request, and gives back the resolved state, which the domain takes unless a level below came out RUN.
-fn coordinate_level<'a>(
-    starts: &'a [u8; DOMAINS],
-    ends: &'a [u8; DOMAINS],
+// Two rows of the four are lent: the others stay as they were, with no clause for it.
+fn coordinate_level(
+    tree: &Tree,
     states: &mut [u8; DOMAINS],
     requests: &mut [u8; REQUESTS],
     off: u8,
@@ -33,8 +33,8 @@ fn coordinate_level<'a>(
     wanted: u8,
     run_below: bool,
 ) -> u8
-    ensures value { result ≡ cond run_below run (minimum_of (get_or ends.now domain 0)
-        (from_tob (get_or starts.now domain 0) (get_or ends.now domain 0))
+    ensures value { result ≡ cond run_below run (minimum_of (get_or tree.now.cpu_ends domain 0)
+        (from_tob (get_or tree.now.cpu_starts domain 0) (get_or tree.now.cpu_ends domain 0))
         (at_level (set_at_level requests.old level cpu wanted) level) off) }
     ensures requests_after { requests.new ≡ set_at_level requests.old level cpu wanted }
     ensures states_after { states.new ≡ cond run_below states.old (set states.old domain result) }
@@ -44,12 +44,20 @@ fn coordinate_level<'a>(
         return 0;
     }
     let d = domain as usize;
-    let x = minimum_at_level(requests, PowerLevel(level), at(starts, d), at(ends, d), off);
+    let start = at(&tree.cpu_starts, d);
+    let x = minimum_at_level(
+        requests,
+        PowerLevel(level),
+        start,
+        at(&tree.cpu_ends, d),
+        off,
+    );
     put(states, d, x);
     x
 }
 
-// The Rust's `coordinate_state`, on lent rows: `asked` are the states asked for, the resolved ones are given back.
+// The Rust's `coordinate_state`, on lent rows: `asked` are the states asked for, the resolved ones are given back. It takes the three rows
+// by themselves: by a `DomainRows` a suspend took 5 ns more (its two pointers are loaded as one from where they were stored), and missed its bar.
 pub fn coordinate_state(
     tree: Tree,
     states: &mut [u8; DOMAINS],
@@ -68,22 +76,14 @@ pub fn coordinate_state(
     let top = upto.0;
     let mut v = asked;
     let mut d = first.0;
+    // a number: the level below
     for below in 0..top {
         let level = below + 1;
         let wanted = state_at(v, PowerLevel(level));
         let under = state_at(v, PowerLevel(below));
         let run_below = (2 <= level) & (under == 0);
         let x = coordinate_level(
-            &tree.cpu_starts,
-            &tree.cpu_ends,
-            states,
-            requests,
-            off,
-            cpu.0,
-            d,
-            level,
-            wanted,
-            run_below,
+            &tree, states, requests, off, cpu.0, d, level, wanted, run_below,
         );
         put_if(copies, level < top, d as usize, x);
         v = set_state_at(v, PowerLevel(level), x);
@@ -92,14 +92,14 @@ pub fn coordinate_state(
     v
 }
 
-// What coordinate makes of the domains, and the states that it resolved.
+// What coordinate makes of the domains, and the states that it resolved. (With a `Step` it shares the domains alone.)
 #[derive(Clone, Copy)]
 pub struct LoweredDomains {
     pub domains: Domains,
     pub resolved: CompositeState,
 }
 
-// The same by value, for a caller that has no rows of its own.
+// The same by value, for a caller that has no rows of its own: it lends its own to the other.
 pub fn lowered(
     tree: Tree,
     domains: Domains,
@@ -111,26 +111,18 @@ pub fn lowered(
 ) -> LoweredDomains
     ensures { result ≡ lowered_of tree domains off first.0 cpu.0 upto.0 asked }
 {
-    let mut states = domains.states;
-    let mut requests = domains.requests;
-    let mut copies = domains.copies;
+    let mut made = domains;
     let resolved = coordinate_state(
         tree,
-        &mut states,
-        &mut requests,
-        &mut copies,
+        &mut made.states,
+        &mut made.requests,
+        &mut made.copies,
         off,
         first,
         cpu,
         upto,
         asked,
     );
-    let made = Domains {
-        states,
-        requests,
-        copies,
-        ..domains
-    };
     LoweredDomains {
         domains: made,
         resolved,

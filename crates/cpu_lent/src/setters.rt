@@ -2,7 +2,8 @@
 ghost use Rattle.std.specs.Prelude.{◌≡◌};
 ghost use Rattle.model.specs.Cpu.{set_affinity_info_of, set_entry_point_of, set_local_state_of};
 
-use model::code::Code;
+use cpu::is_held;
+use model::code::Refusal;
 use model::cpu::{AffinityInfo, CpuPowerNode, EntryPoint};
 
 // Sets the affinity of the CPU.
@@ -19,27 +20,14 @@ pub fn set_local_state(cpu: &mut CpuPowerNode, local_state: u8)
     *cpu = cpu::set_local_state(*cpu, local_state);
 }
 
-// What keeping an entry answers.
-fn entry_code(cpu: CpuPowerNode, entry_point: EntryPoint) -> Code
-    ensures { result ≡ (set_entry_point_of cpu entry_point).code }
-{
-    cpu::set_entry_point(cpu, entry_point).code
-}
-
-// The record with the entry kept.
-fn entry_kept(cpu: CpuPowerNode, entry_point: EntryPoint) -> CpuPowerNode
-    ensures { result ≡ (set_entry_point_of cpu entry_point).cpu }
-{
-    cpu::set_entry_point(cpu, entry_point).cpu
-}
-
 // Keeps an entry; where one is held that one stays, and the answer is 102.
-pub fn set_entry_point(cpu: &mut CpuPowerNode, entry_point: EntryPoint) -> Code
-    ensures { (cpu.new ≡ (set_entry_point_of cpu.old entry_point).cpu)
-        × (result ≡ (set_entry_point_of cpu.old entry_point).code) }
+pub fn set_entry_point(cpu: &mut CpuPowerNode, entry_point: EntryPoint) -> Result<(), Refusal>
+    ensures answer { result ≡ (set_entry_point_of cpu.old entry_point).code }
+    ensures left { cpu.new ≡ (set_entry_point_of cpu.old entry_point).cpu }
 {
-    let was = *cpu;
-    let code = entry_code(was, entry_point);
-    *cpu = entry_kept(was, entry_point);
-    code
+    if is_held(cpu.entry_point) {
+        return Err(Refusal::NotSound);
+    }
+    cpu.entry_point = Some(entry_point);
+    Ok(())
 }

@@ -4,9 +4,11 @@
 ghost use Rattle.std.specs.Prelude.{◌≡◌, get_or, set};
 ghost use Rattle.model.specs.State.{no_cpu};
 
-use model::cpu::{AffinityInfo, CpuPowerNode, Entry};
+use model::cpu::{AffinityInfo, CpuPowerNode};
 use model::limits::CPUS;
 use model::sorts::{CpuNumber, DomainNumber};
+use rows::cells::at_or;
+use rows::tables::with;
 
 // The record in a slot where there is no CPU.
 pub fn no_cpu() -> CpuPowerNode
@@ -16,7 +18,7 @@ pub fn no_cpu() -> CpuPowerNode
         parent: DomainNumber(0),
         affinity_info: AffinityInfo::On,
         local_state: 0,
-        entry_point: Entry::Nothing,
+        entry_point: None,
     }
 }
 
@@ -24,11 +26,7 @@ pub fn no_cpu() -> CpuPowerNode
 pub fn cpu_in(cpus: [CpuPowerNode; CPUS], cpu: CpuNumber) -> CpuPowerNode
     ensures { result ≡ get_or cpus cpu.0 no_cpu }
 {
-    let i = cpu.0 as usize;
-    if i < CPUS {
-        return cpus[i];
-    }
-    no_cpu()
+    at_or(&cpus, cpu.0 as usize, no_cpu())
 }
 
 // The table after a store; past its end nothing is stored.
@@ -39,11 +37,5 @@ pub fn with_cpu_record(
 ) -> [CpuPowerNode; CPUS]
     ensures { result ≡ set cpus cpu.0 node }
 {
-    let mut t = cpus;
-    let i = cpu.0 as usize;
-    if i < CPUS {
-        t[i] = node;
-        return t;
-    }
-    t
+    with(cpus, cpu.0 as usize, node)
 }

@@ -1,4 +1,5 @@
 -- The records that the rows stand for: what is read, and what a store makes of them.
+use Rattle.std.specs.Prelude.{Option, None, Some}
 use Prim.Native.Nat.{ℕ, ◌<◌, ◌≤◌}
 use mathlib.Core.List.{List}
 use mathlib.Core.Logic.{◌≢◌}
@@ -16,8 +17,7 @@ use Rattle.model.specs.State.{no_cpu}
 use Rattle.model.specs.declared.cpu.AffinityInfo.{AffinityInfo}
 use Rattle.model.specs.declared.cpu.AffinityInfo.TheVariants as affinity
 use Rattle.model.specs.declared.cpu.CpuPowerNode.{CpuPowerNode}
-use Rattle.model.specs.declared.cpu.Entry.{Entry}
-use Rattle.model.specs.declared.cpu.Entry.TheVariants as entry
+use Rattle.model.specs.declared.cpu.EntryPoint.{EntryPoint}
 use Rattle.cpu_table.specs.declared.CpuRows.{CpuRows}
 use Rattle.cpu_table.specs.CpuTable.{Lengths, address_in, affinity_byte, context_in, cpu_in, cpus_in, held_byte, kept_in, stored_in}
 
@@ -62,19 +62,19 @@ affinity_back affinity.OnPending = refl
 
 module _ (c : ℕ) where
   -- what a store of an entry leaves at another place
-  kept_other : (e : Entry) (row : List ℕ) (v i : ℕ) → i ≢ c → get_or (kept_in e row c v) i 0 ≡ get_or row i 0
-  kept_other entry.Nothing row v i h = refl
-  kept_other (entry.Held _) row v i h = get_or-set_other row c i v 0 h
+  kept_other : (e : Option EntryPoint) (row : List ℕ) (v i : ℕ) → i ≢ c → get_or (kept_in e row c v) i 0 ≡ get_or row i 0
+  kept_other None row v i h = refl
+  kept_other (Some _) row v i h = get_or-set_other row c i v 0 h
 
-  kept_length : (e : Entry) (row : List ℕ) (v : ℕ) → length (kept_in e row c v) ≡ length row
-  kept_length entry.Nothing row v = refl
-  kept_length (entry.Held _) row v = length-set row c v
+  kept_length : (e : Option EntryPoint) (row : List ℕ) (v : ℕ) → length (kept_in e row c v) ≡ length row
+  kept_length None row v = refl
+  kept_length (Some _) row v = length-set row c v
 
   -- the entry that was stored is the one that is read
-  kept_back : (e : Entry) (addresses contexts : List ℕ) → c < length addresses → c < length contexts →
+  kept_back : (e : Option EntryPoint) (addresses contexts : List ℕ) → c < length addresses → c < length contexts →
       entry_in (held_byte e) (get_or (kept_in e addresses c (address_in e)) c 0) (get_or (kept_in e contexts c (context_in e)) c 0) ≡ e
-  kept_back entry.Nothing addresses contexts h k = refl
-  kept_back (entry.Held e) addresses contexts h k =
+  kept_back None addresses contexts h k = refl
+  kept_back (Some e) addresses contexts h k =
       rw (get_or-set_same addresses c e.address 0 h, get_or-set_same contexts c e.context 0 k)
 
 module _ {x : CpuRows} (l : Lengths x) (c : ℕ) (node : CpuPowerNode) where

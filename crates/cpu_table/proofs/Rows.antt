@@ -1,4 +1,5 @@
 -- A table of records that is taken apart into rows.
+use Rattle.std.specs.Prelude.{Option, None, Some}
 use Prim.Native.Nat.{ℕ, ◌+◌, ◌<◌}
 use mathlib.Core.List.{List}
 use mathlib.Core.Path.{◌≡◌, refl, sym, ap, subst, ◌∙◌}
@@ -11,16 +12,15 @@ use Rattle.model.specs.Limits.{cpu_limit}
 use Rattle.model.specs.State.{no_cpu}
 use Rattle.model.specs.Table.{filled_of}
 use Rattle.model.specs.declared.cpu.CpuPowerNode.{CpuPowerNode}
-use Rattle.model.specs.declared.cpu.Entry.{Entry}
-use Rattle.model.specs.declared.cpu.Entry.TheVariants as entry
+use Rattle.model.specs.declared.cpu.EntryPoint.{EntryPoint}
 use Rattle.cpu_table.proofs.Records.{affinity_back, cpu_below}
 use Rattle.cpu_table.specs.declared.CpuRows.{CpuRows}
 use Rattle.cpu_table.specs.CpuTable.{Lengths, address_in, affinity_byte, context_in, cpu_in, cpus_in, cpu_table, held_byte, rows_of, rows_to, row_to}
 
 -- three numbers stand for the entry that they are of
-entry_back : (e : Entry) → entry_in (held_byte e) (address_in e) (context_in e) ≡ e
-entry_back entry.Nothing = refl
-entry_back (entry.Held e) = refl
+entry_back : (e : Option EntryPoint) → entry_in (held_byte e) (address_in e) (context_in e) ≡ e
+entry_back None = refl
+entry_back (Some e) = refl
 
 -- the rows after every number of a record is stored
 abbrev pub put_in : CpuRows → ℕ → CpuPowerNode → CpuRows

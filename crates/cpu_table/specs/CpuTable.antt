@@ -1,5 +1,5 @@
 -- The records of CPUs in rows of numbers, a place a CPU.
-use Rattle.std.specs.Prelude.{ℕ, Bool, ◌||◌, List, ◌≡◌, eqb, get_or, length, set}
+use Rattle.std.specs.Prelude.{ℕ, Bool, ◌||◌, List, ◌≡◌, eqb, get_or, length, set, Option, None, Some}
 use Rattle.image.specs.Image.{affinity_in, entry_in}
 use Rattle.model.specs.Below.{every}
 use Rattle.model.specs.Limits.{cpu_limit}
@@ -8,9 +8,10 @@ use Rattle.model.specs.Table.{cpu_row_of, table_of}
 use Rattle.model.specs.declared.cpu.AffinityInfo.{AffinityInfo}
 use Rattle.model.specs.declared.cpu.AffinityInfo.TheVariants as affinity
 use Rattle.model.specs.declared.cpu.CpuPowerNode.{CpuPowerNode}
-use Rattle.model.specs.declared.cpu.Entry.{Entry}
-use Rattle.model.specs.declared.cpu.Entry.TheVariants as entry
+use Rattle.model.specs.declared.cpu.EntryPoint.{EntryPoint}
 use Rattle.cpu_table.specs.declared.CpuRows.{CpuRows}
+use Rattle.cpu_table.specs.declared.CpuTable.{CpuTable}
+use Rattle.cpu_table.specs.declared.CpuView.{CpuView}
 
 -- six lent rows as one record
 abbrev pub cpu_table : (firsts affinities locals helds addresses contexts : List ℕ) → CpuRows
@@ -22,6 +23,24 @@ cpu_table firsts affinities locals helds addresses contexts = record {
   addresses = addresses;
   contexts = contexts;
 }
+
+-- what rows that are lent hold, to be read
+abbrev pub view_rows : CpuView → CpuRows
+view_rows x = cpu_table x.firsts.now x.affinities.now x.locals.now x.helds.now x.addresses.now x.contexts.now
+
+-- or for change
+abbrev pub lent_cpus : CpuTable → CpuRows
+lent_cpus x = cpu_table x.firsts.now x.affinities.now x.locals.now x.helds.now x.addresses.now x.contexts.now
+
+-- the same rows are lent
+abbrev pub SameCpus : CpuTable → CpuTable → Type 0
+SameCpus x y =
+    (y.firsts.now ≡ x.firsts.now)
+    × (y.affinities.ghost_name ≡ x.affinities.ghost_name)
+    × (y.locals.ghost_name ≡ x.locals.ghost_name)
+    × (y.helds.ghost_name ≡ x.helds.ghost_name)
+    × (y.addresses.ghost_name ≡ x.addresses.ghost_name)
+    × (y.contexts.ghost_name ≡ x.contexts.ghost_name)
 
 -- each row has a place for each CPU
 pub record Lengths (x : CpuRows) : Type 0 where
@@ -52,23 +71,23 @@ affinity_byte affinity.Off = 1
 affinity_byte affinity.OnPending = 2
 
 -- the byte that says whether an entry is held
-abbrev pub held_byte : Entry → ℕ
-held_byte entry.Nothing = 0
-held_byte (entry.Held _) = 1
+abbrev pub held_byte : Option EntryPoint → ℕ
+held_byte None = 0
+held_byte (Some _) = 1
 
 -- its address and its context, 0 where none is held
-abbrev pub address_in : Entry → ℕ
-address_in entry.Nothing = 0
-address_in (entry.Held e) = e.address
+abbrev pub address_in : Option EntryPoint → ℕ
+address_in None = 0
+address_in (Some e) = e.address
 
-abbrev pub context_in : Entry → ℕ
-context_in entry.Nothing = 0
-context_in (entry.Held e) = e.context
+abbrev pub context_in : Option EntryPoint → ℕ
+context_in None = 0
+context_in (Some e) = e.context
 
 -- a row after what it has of an entry is stored: where none is held, it is as it was
-abbrev pub kept_in : Entry → List ℕ → ℕ → ℕ → List ℕ
-kept_in entry.Nothing row c v = row
-kept_in (entry.Held _) row c v = set row c v
+abbrev pub kept_in : Option EntryPoint → List ℕ → ℕ → ℕ → List ℕ
+kept_in None row c v = row
+kept_in (Some _) row c v = set row c v
 
 -- the rows after a CPU's record is stored; its parent is not, and past their end nothing is
 abbrev pub stored_in : CpuRows → ℕ → CpuPowerNode → CpuRows

@@ -3,12 +3,11 @@
 
 use model::limits::CPUS;
 
-pub mod cells;
 pub mod record;
 pub mod tables;
 pub mod walk;
 
-// The rows, at each CPU's number.
+// The rows, at each CPU's number. Bytes and no enums, rows and no records: C keeps them so (`psci_start`).
 #[derive(Drop)]
 pub struct CpuRows {
     // its domain of level 1
@@ -22,4 +21,26 @@ pub struct CpuRows {
     // the entry that is held
     pub addresses: [u64; CPUS],
     pub contexts: [u64; CPUS],
+}
+
+// The same rows, lent to be read.
+#[derive(Clone, Copy)]
+pub struct CpuView<'a> {
+    pub firsts: &'a [u8; CPUS],
+    pub affinities: &'a [u8; CPUS],
+    pub locals: &'a [u8; CPUS],
+    pub helds: &'a [u8; CPUS],
+    pub addresses: &'a [u64; CPUS],
+    pub contexts: &'a [u64; CPUS],
+}
+
+// The same rows, lent for change: all but the CPUs' domains, which no call changes.
+#[derive(Drop)]
+pub struct CpuTable<'a> {
+    pub firsts: &'a [u8; CPUS],
+    pub affinities: &'a mut [u8; CPUS],
+    pub locals: &'a mut [u8; CPUS],
+    pub helds: &'a mut [u8; CPUS],
+    pub addresses: &'a mut [u64; CPUS],
+    pub contexts: &'a mut [u64; CPUS],
 }

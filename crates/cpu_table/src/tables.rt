@@ -1,32 +1,26 @@
 // A whole table of records: taken apart into rows, and made of them.
 ghost use Rattle.std.specs.Prelude.{◌≡◌};
-ghost use Rattle.cpu_table.specs.CpuTable.{address_in, context_in, cpus_in, cpu_table, rows_of};
+ghost use Rattle.cpu_table.specs.CpuTable.{address_in, context_in, cpus_in, rows_of, view_rows};
 
-use crate::CpuRows;
-use crate::record::{affinity_byte, cpu_in, held_byte};
+use crate::record::{affinity_byte, held_byte};
+use crate::{CpuRows, CpuView};
 use cpu_rows::no_cpu;
-use model::cpu::{CpuPowerNode, Entry};
+use model::cpu::{CpuPowerNode, EntryPoint};
 use model::limits::CPUS;
 use model::sorts::CpuNumber;
 
 // The address of an entry, 0 where none is held.
-fn address_in(e: Entry) -> u64
+fn address_in(e: Option<EntryPoint>) -> u64
     ensures { result ≡ address_in e }
 {
-    match e {
-        Entry::Nothing => 0,
-        Entry::Held(point) => point.address,
-    }
+    e.map_or(0, |point| point.address)
 }
 
 // Its context.
-fn context_in(e: Entry) -> u64
+fn context_in(e: Option<EntryPoint>) -> u64
     ensures { result ≡ context_in e }
 {
-    match e {
-        Entry::Nothing => 0,
-        Entry::Held(point) => point.context,
-    }
+    e.map_or(0, |point| point.context)
 }
 
 // The rows of a table of records.
@@ -39,8 +33,7 @@ pub fn rows_of(cpus: [CpuPowerNode; CPUS]) -> CpuRows
     let mut helds = [0; CPUS];
     let mut addresses = [0; CPUS];
     let mut contexts = [0; CPUS];
-    for c in 0..CPUS {
-        let node = cpus[c];
+    for (c, node) in cpus.iter().enumerate() {
         let affinity = node.affinity_info;
         let entry = node.entry_point;
         firsts[c] = node.parent.0;
@@ -60,31 +53,16 @@ pub fn rows_of(cpus: [CpuPowerNode; CPUS]) -> CpuRows
     }
 }
 
-// The records that rows stand for.
-pub fn table_of(
-    firsts: &[u8; CPUS],
-    affinities: &[u8; CPUS],
-    locals: &[u8; CPUS],
-    helds: &[u8; CPUS],
-    addresses: &[u64; CPUS],
-    contexts: &[u64; CPUS],
-) -> [CpuPowerNode; CPUS]
-    ensures { result ≡ cpus_in (cpu_table firsts.now affinities.now locals.now helds.now
-        addresses.now contexts.now) }
-{
-    let nothing = no_cpu();
-    let mut cpus = [nothing; CPUS];
-    for c in 0..CPUS {
-        let node = cpu_in(
-            firsts,
-            affinities,
-            locals,
-            helds,
-            addresses,
-            contexts,
-            CpuNumber(c as u8),
-        );
-        cpus[c] = node;
+impl CpuView<'_> {
+    // The records that rows stand for.
+    pub fn table_of(self) -> [CpuPowerNode; CPUS]
+        ensures { result ≡ cpus_in (view_rows self.entry) }
+    {
+        let nothing = no_cpu();
+        let mut cpus = [nothing; CPUS];
+        for (c, node) in cpus.iter_mut().enumerate() {
+            *node = self.cpu_in(CpuNumber(c as u8));
+        }
+        cpus
     }
-    cpus
 }

@@ -1,4 +1,5 @@
 // Tests over a row of CPU records, which is read where it lies: the last-CPU and the all-on test.
+// A count and no slice: past the table's end it counts CPUs that there are not, as `others_off_in` says.
 #![tactic(auto)]
 
 ghost use Rattle.std.specs.Prelude.{◌≡◌};
@@ -10,29 +11,16 @@ use model::limits::CPUS;
 
 pub mod row;
 
-// The table is lent to the walk, which counts in `usize`.
-fn lend_others_off(cpus: [CpuPowerNode; CPUS], count: usize, cpu: usize) -> bool
-    ensures { result ≡ others_off_in cpus count cpu }
-{
-    others_off(&cpus, count, cpu)
-}
-
-fn lend_all_on(cpus: [CpuPowerNode; CPUS], count: usize) -> bool
-    ensures { result ≡ all_on_in cpus count }
-{
-    all_on(&cpus, count)
-}
-
 // Is every CPU of the first so many of a table Off, but for one?
 pub fn others_off_in(cpus: [CpuPowerNode; CPUS], count: u8, cpu: u8) -> bool
     ensures { result ≡ others_off_in cpus count cpu }
 {
-    lend_others_off(cpus, count as usize, cpu as usize)
+    others_off(&cpus, count as usize, cpu as usize)
 }
 
 // Is every CPU of the first so many of a table On?
 pub fn all_on_in(cpus: [CpuPowerNode; CPUS], count: u8) -> bool
     ensures { result ≡ all_on_in cpus count }
 {
-    lend_all_on(cpus, count as usize)
+    all_on(&cpus, count as usize)
 }

@@ -6,17 +6,16 @@ ghost use Rattle.model.specs.StateQuery.{all_on_in, others_off_in};
 
 use cpu::is_on;
 use cpu_rows::no_cpu;
+use lend::every::every;
+use lend::every_with::every_with;
 use model::cpu::{AffinityInfo, CpuPowerNode};
+use rows::cells::at_or;
 
 // Is the affinity Off? OnPending is not.
 fn is_off(a: AffinityInfo) -> bool
     ensures { result ≡ offb a }
 {
-    match a {
-        AffinityInfo::On => false,
-        AffinityInfo::Off => true,
-        AffinityInfo::OnPending => false,
-    }
+    a == AffinityInfo::Off
 }
 
 // Is the CPU at a place the one given, or Off?
@@ -39,36 +38,19 @@ fn on(node: CpuPowerNode) -> bool
 pub fn cpu_at(cpus: &[CpuPowerNode], c: usize) -> CpuPowerNode
     ensures { result ≡ get_or cpus.now c no_cpu }
 {
-    if c < cpus.len() {
-        return cpus[c];
-    }
-    no_cpu()
+    at_or(cpus, c, no_cpu())
 }
 
 // Is every CPU of the first so many Off, but for one?
 pub fn others_off(cpus: &[CpuPowerNode], count: usize, cpu: usize) -> bool
     ensures { result ≡ others_off_in cpus.now count cpu }
 {
-    let mut c: usize = 0;
-    while c < count {
-        if off_but(cpu_at(cpus, c), c, cpu) {} else {
-            return false;
-        }
-        c += 1;
-    }
-    true
+    every_with(cpus, count, cpu, cpu_at, off_but)
 }
 
 // Is every CPU of the first so many On?
 pub fn all_on(cpus: &[CpuPowerNode], count: usize) -> bool
     ensures { result ≡ all_on_in cpus.now count }
 {
-    let mut c: usize = 0;
-    while c < count {
-        if on(cpu_at(cpus, c)) {} else {
-            return false;
-        }
-        c += 1;
-    }
-    true
+    every(cpus, count, cpu_at, on)
 }

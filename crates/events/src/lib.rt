@@ -17,13 +17,8 @@ pub fn named_cpu(call: Call) -> CpuNumber
     ensures { result ≡ named_of call }
 {
     match call {
-        Call::On(caller, target, entry, address_good, answer) => target,
-        Call::Off(caller, early_answer) => caller,
-        Call::Suspend(caller, pending, entry, asked) => caller,
-        Call::Finish(cpu) => cpu,
-        Call::Boot(cpu) => cpu,
-        Call::SystemSuspend(caller, feature, pending, address_good, entry, asked) => caller,
-        Call::SetMode(caller, feature, mode) => caller,
+        Call::On(_, target, ..) => target,
+        _ => caller(call),
     }
 }
 
@@ -32,17 +27,17 @@ pub fn caller(call: Call) -> CpuNumber
     ensures { result ≡ caller_of call }
 {
     match call {
-        Call::On(caller, target, entry, address_good, answer) => caller,
-        Call::Off(caller, early_answer) => caller,
-        Call::Suspend(caller, pending, entry, asked) => caller,
-        Call::Finish(cpu) => cpu,
-        Call::Boot(cpu) => cpu,
-        Call::SystemSuspend(caller, feature, pending, address_good, entry, asked) => caller,
-        Call::SetMode(caller, feature, mode) => caller,
+        Call::On(cpu, ..)
+        | Call::Off(cpu, ..)
+        | Call::Suspend(cpu, ..)
+        | Call::Finish(cpu)
+        | Call::Boot(cpu)
+        | Call::SystemSuspend(cpu, ..)
+        | Call::SetMode(cpu, ..) => cpu,
     }
 }
 
-// The answer to a call.
+// The answer to a call. A match and no table of functions: each call has fields of its own.
 pub fn call(state: State, call: Call) -> CallAnswer
     ensures { result ≡ call_of state call }
 {

@@ -5,9 +5,10 @@ use mathlib.Core.List.{List}
 use mathlib.Core.Path.{◌≡◌, sym, ap, ◌∙◌}
 use lib.Dec.{eqb}
 use lib.ListN.{get_or, length}
+use Rattle.std.specs.Prelude.{Ok, Err}
 use Rattle.model.specs.declared.board.Tree.{Tree}
 use Rattle.model.specs.declared.board.TreeAnswer.{TreeAnswer}
-use Rattle.model.specs.declared.code.Code.TheVariants as code
+use Rattle.model.specs.declared.code.Refusal.TheVariants as code
 use Rattle.model.specs.declared.cpu.CpuPowerNode.{CpuPowerNode}
 use Rattle.model.specs.declared.sorts.CpuNumber.{CpuNumber}
 use Rattle.model.specs.declared.state.FreshAnswer.{FreshAnswer}
@@ -53,12 +54,12 @@ module _ (p : Platform) (primary : CpuNumber) (t : List ℕ) where
 
   -- the answer where the board is acceptable
   pub fresh_yes : (s state : State) → boardb p primary t ≡ true → s ≡ all_off_of p primary t → state ≡ brought_up s primary.0 →
-      ◌≡◌ {A = FreshAnswer} (record { code = code.Accepted; state = state }) (fresh_of p primary t)
+      ◌≡◌ {A = FreshAnswer} (record { code = Ok tt; state = state }) (fresh_of p primary t)
   unfolding fresh_of
   fresh_yes s state h e f = rw (f, e, h)
 
   -- and where it is not
   pub fresh_no : (state : State) → boardb p primary t ≡ false → state ≡ no_state →
-      ◌≡◌ {A = FreshAnswer} (record { code = code.BadBoard; state = state }) (fresh_of p primary t)
+      ◌≡◌ {A = FreshAnswer} (record { code = Err code.BadBoard; state = state }) (fresh_of p primary t)
   unfolding fresh_of
   fresh_no state h e = rw (e, h)

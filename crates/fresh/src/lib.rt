@@ -7,11 +7,11 @@ ghost use Rattle.std.specs.Prelude.{◌≡◌};
 ghost use Rattle.model.specs.Fresh.{all_off_of, brought_up, fresh_of, no_state};
 ghost use Rattle.model.specs.Tree.{cpu_parents_of, tree_of};
 
-use cpu_lent::{with_affinity_info, with_local_state};
+use cpu::{set_affinity_info, set_local_state};
 use cpu_rows::{cpu_in, no_cpu, with_cpu_record};
 use levels::levels_filled;
 use model::board::{Board, Tree};
-use model::code::Code;
+use model::code::Refusal;
 use model::cpu::AffinityInfo;
 use model::limits::{CPUS, DOMAINS, ENTRIES, REQUESTS};
 use model::node::NO_SUSPEND_STATE;
@@ -66,7 +66,7 @@ fn bring_up(s: State, cpu: CpuNumber) -> State
 {
     let table = s.cpus;
     let node = cpu_in(table, cpu);
-    let running = with_local_state(with_affinity_info(node, AffinityInfo::On), 0);
+    let running = set_local_state(set_affinity_info(node, AffinityInfo::On), 0);
     let cpus = with_cpu_record(table, cpu, running);
     let rows = s.domains;
     let domains = running_domains(s.tree, rows, s.board.platform.max, running.parent, cpu);
@@ -110,19 +110,19 @@ pub fn fresh(platform: Platform, primary: CpuNumber, topology: &[u8]) -> FreshAn
 {
     let made = power_domain_tree(platform, primary, topology);
     let code = made.code;
-    if code.is_accepted() {
+    if code.is_ok() {
         let tree = made.tree;
         let parents = made.cpu_parents;
         let s = all_off(platform, primary, topology, tree, parents);
         let state = bring_up(s, primary);
         return FreshAnswer {
-            code: Code::Accepted,
+            code: Ok(()),
             state,
         };
     }
     let state = no_state();
     FreshAnswer {
-        code: Code::BadBoard,
+        code: Err(Refusal::BadBoard),
         state,
     }
 }

@@ -1,4 +1,4 @@
-ghost use Rattle.std.specs.Prelude.{cond, ◌≡◌, eqb, get_or, length};
+ghost use Rattle.std.specs.Prelude.{cond, ◌≡◌, eqb, get_or, length, ℕ};
 ghost use Rattle.model.specs.Cpu.{new_of};
 ghost use Rattle.model.specs.Limits.{cpu_limit, entry_limit};
 ghost use Rattle.model.specs.State.{no_cpu};
@@ -19,26 +19,34 @@ pub(super) fn stored(topology: &[u8]) -> [u8; ENTRIES]
     ensures { result ≡ table_of entry_limit 0 (λ i. get_or topology.now i 0) (length topology.now) }
 {
     let mut row = [0; ENTRIES];
-    for i in 0..topology.len() {
-        put(&mut row, i, at(topology, i));
+    for (i, entry) in topology.iter().enumerate() {
+        put(&mut row, i, *entry);
     }
     row
+}
+
+// A table in which so many places are used, and the rest hold what stands for nothing. What is past its end is dropped.
+fn table<T: Copy, const N: usize, F: Fn(u8) -> T + Drop>(nothing: T, count: u8, entry: F) -> [T; N]
+    requires { F.IsAlwaysCallable entry }
+    ensures { (e : ℕ → T) → ((k : ℕ) (x : T) → F.post entry k x → x ≡ e k) → result ≡ table_of N nothing e count }
+{
+    let mut table = [nothing; N];
+    // a number, since `entry` takes it
+    for k in 0..count {
+        put(&mut table, k as usize, entry(k));
+    }
+    table
 }
 
 // Every CPU Off, in state OFF, with no entry point.
 pub(super) fn cpus_off(parents: [u8; CPUS], count: u8, off: u8) -> [CpuPowerNode; CPUS]
     ensures { result ≡ table_of cpu_limit no_cpu (λ c. new_of (record { 0 = get_or parents c 0 }) off) count }
 {
-    let nothing = no_cpu();
-    let mut cpus = [nothing; CPUS];
-    for c in 0..count {
-        let i = c as usize;
-        let node = new(DomainNumber(at(&parents, i)), off);
-        if i < CPUS {
-            cpus[i] = node;
-        }
-    }
-    cpus
+    table(
+        no_cpu(),
+        count,
+        |c| new(DomainNumber(at(&parents, c as usize)), off),
+    )
 }
 
 // Every domain OFF.
@@ -64,10 +72,5 @@ fn copy_off(parent: u8, off: u8) -> u8
 pub(super) fn copies_off(parents: [u8; DOMAINS], count: u8, off: u8) -> [u8; DOMAINS]
     ensures { result ≡ domain_row_of (λ k. cond (eqb (get_or parents k 0) no_parent) 0 off) count }
 {
-    let mut row = [0; DOMAINS];
-    for k in 0..count {
-        let d = k as usize;
-        put(&mut row, d, copy_off(at(&parents, d), off));
-    }
-    row
+    table(0, count, |k| copy_off(at(&parents, k as usize), off))
 }

@@ -4,6 +4,7 @@ use Prim.Native.Nat.{ℕ}
 use mathlib.Core.Bool.{Bool, true, false}
 use mathlib.Core.List.{List, [], ◌∷◌, ◌++◌}
 use mathlib.Core.Path.{◌≡◌, refl}
+use Rattle.std.specs.Prelude.{Ok, Err}
 use Rattle.history.specs.History.{Done}
 use Rattle.history.specs.Standing.{standing_from, standing}
 use Rattle.history.specs.Under.{shallowest_of}
@@ -11,8 +12,8 @@ use Rattle.model.specs.Minimum.{lesser_of, minimum_of}
 use Rattle.model.specs.Topology.{total_of, entry_of, down_of, ancestor_of, level_of}
 use Rattle.model.specs.declared.call.Call.{Call}
 use Rattle.model.specs.declared.call.Call.TheVariants as call
-use Rattle.model.specs.declared.code.Code.{Code}
-use Rattle.model.specs.declared.code.Code.TheVariants as code
+use Rattle.model.specs.Numbers.{Code}
+use Rattle.model.specs.declared.code.Refusal.TheVariants as code
 use Rattle.model.specs.declared.cpu.EntryPoint.{EntryPoint}
 use Rattle.model.specs.declared.sorts.CpuNumber.{CpuNumber}
 use Rattle.model.specs.declared.states.CompositeState.{CompositeState}
@@ -42,23 +43,23 @@ suspend c pending = call.Suspend (cpu c) pending entry
 -- CPU 1 comes up; CPU 0's first suspend is not entered, its second is; CPU 1's first is refused, its second is entered
 abbrev turns : List Done
 turns =
-    done (call.On (cpu 0) (cpu 1) entry true 0) code.Accepted
-    ∷ done (call.Boot (cpu 1)) code.Accepted
-    ∷ done (suspend 0 true (asks 1 1 1)) code.Accepted
-    ∷ done (suspend 0 false (asks 3 3 3)) code.Accepted
-    ∷ done (suspend 1 false (asks 2 0 1)) code.InvalidParameters
-    ∷ done (suspend 1 false (asks 2 2 1)) code.Accepted
+    done (call.On (cpu 0) (cpu 1) entry true 0) (Ok tt)
+    ∷ done (call.Boot (cpu 1)) (Ok tt)
+    ∷ done (suspend 0 true (asks 1 1 1)) (Ok tt)
+    ∷ done (suspend 0 false (asks 3 3 3)) (Ok tt)
+    ∷ done (suspend 1 false (asks 2 0 1)) (Err code.InvalidParameters)
+    ∷ done (suspend 1 false (asks 2 2 1)) (Ok tt)
     ∷ []
 
 -- then CPU 1 wakes and CPU 0 boots, CPU 1 turns itself off, and CPU 0's suspend is not entered and its off refused
 abbrev more : List Done
 more =
-    done (call.Finish (cpu 1)) code.Accepted
-    ∷ done (call.Boot (cpu 0)) code.Accepted
-    ∷ done (call.Off (cpu 1) 0) code.Accepted
-    ∷ done (suspend 0 true (asks 3 3 3)) code.Accepted
-    ∷ done (call.Off (cpu 0) 254) code.InvalidParameters
-    ∷ done (call.Off (cpu 9) 0) code.NoCaller
+    done (call.Finish (cpu 1)) (Ok tt)
+    ∷ done (call.Boot (cpu 0)) (Ok tt)
+    ∷ done (call.Off (cpu 1) 0) (Ok tt)
+    ∷ done (suspend 0 true (asks 3 3 3)) (Ok tt)
+    ∷ done (call.Off (cpu 0) 254) (Err code.InvalidParameters)
+    ∷ done (call.Off (cpu 9) 0) (Err code.NoCaller)
     ∷ []
 
 -- the domains' states, and then the CPUs'

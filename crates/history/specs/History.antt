@@ -2,7 +2,7 @@
 use Rattle.std.specs.Prelude.{List, [], ◌∷◌}
 use Rattle.model.specs.Calls.{call_of}
 use Rattle.model.specs.declared.call.Call.{Call}
-use Rattle.model.specs.declared.code.Code.{Code}
+use Rattle.model.specs.Numbers.{Code}
 use Rattle.model.specs.declared.state.State.{State}
 
 -- a call that was made: with the platform's answers, and the code

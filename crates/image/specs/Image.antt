@@ -1,5 +1,5 @@
 -- docs/REFERENCE.md, 'A state in bytes'.
-use Rattle.std.specs.Prelude.{ℕ, ◌+◌, ◌*◌, cond, List, eqb}
+use Rattle.std.specs.Prelude.{ℕ, ◌+◌, ◌*◌, cond, List, eqb, Option, None, Some}
 use Rattle.model.specs.Limits.{cpu_limit, domain_limit, entry_limit, request_slots}
 use Rattle.model.specs.State.{no_cpu}
 use Rattle.model.specs.Table.{table_of}
@@ -8,8 +8,7 @@ use Rattle.model.specs.declared.board.Tree.{Tree}
 use Rattle.model.specs.declared.cpu.AffinityInfo.{AffinityInfo}
 use Rattle.model.specs.declared.cpu.AffinityInfo.TheVariants as affinity
 use Rattle.model.specs.declared.cpu.CpuPowerNode.{CpuPowerNode}
-use Rattle.model.specs.declared.cpu.Entry.{Entry}
-use Rattle.model.specs.declared.cpu.Entry.TheVariants as entry
+use Rattle.model.specs.declared.cpu.EntryPoint.{EntryPoint}
 use Rattle.model.specs.declared.state.Domains.{Domains}
 use Rattle.model.specs.declared.state.State.{State}
 use Rattle.model.specs.declared.state.SuspendMode.{SuspendMode}
@@ -26,8 +25,8 @@ affinity_in b = cond (eqb b 0) affinity.On (cond (eqb b 1) affinity.Off affinity
 abbrev pub mode_in : ℕ → SuspendMode
 mode_in b = cond (eqb b 0) mode.PlatformCoordinated mode.OsInitiated
 
-abbrev pub entry_in : ℕ → ℕ → ℕ → Entry
-entry_in held address context = cond (eqb held 0) entry.Nothing (entry.Held (record { address = address; context = context }))
+abbrev pub entry_in : ℕ → ℕ → ℕ → Option EntryPoint
+entry_in held address context = cond (eqb held 0) None (Some (record { address = address; context = context }))
 
 -- a CPU in 20 bytes: parent, affinity, state, whether an entry is held, its address and its context
 abbrev pub cpu_in : List ℕ → ℕ → CpuPowerNode

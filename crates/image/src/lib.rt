@@ -4,19 +4,19 @@
 ghost use Rattle.std.specs.Prelude.{◌+◌, ◌≤◌, ◌≡◌, length};
 ghost use Rattle.image.specs.Image.{affinity_in, board_in, cpu_in, cpus_in, domains_in, entry_in, mode_in, row_in, state_in};
 ghost use Rattle.image.specs.Image.{tree_in};
-ghost use Rattle.model.specs.Limits.{domain_limit, entry_limit, request_slots};
+ghost use Rattle.model.specs.Limits.{request_slots};
 ghost use Rattle.model.specs.Table.{filled_of};
 ghost use Rattle.script.specs.Bytes.{byte_at};
 
 use cpu_rows::no_cpu;
 use model::board::{Board, Tree};
-use model::cpu::{AffinityInfo, CpuPowerNode, Entry, EntryPoint};
+use model::cpu::{AffinityInfo, CpuPowerNode, EntryPoint};
 use model::limits::{CPUS, DOMAINS, ENTRIES, REQUESTS};
 use model::sorts::{CpuNumber, DomainNumber, PowerLevel};
 use model::state::{Domains, State, SuspendMode};
 use model::states::Platform;
 use numbers::read_u64;
-use rows::cells::{at, put};
+use rows::cells::at;
 
 // Fills a row from the bytes at a place on.
 fn fill<'a>(row: &'a mut [u8], bytes: &'a [u8], place: u16)
@@ -24,69 +24,50 @@ fn fill<'a>(row: &'a mut [u8], bytes: &'a [u8], place: u16)
     ensures { row.new
         ≡ filled_of (λ i. byte_at bytes.now (place + i)) 0 (length row.old) row.old }
 {
-    for i in 0..row.len() {
-        put(row, i, at(bytes, place as usize + i));
+    for (i, byte) in row.iter_mut().enumerate() {
+        *byte = at(bytes, place as usize + i);
     }
 }
 
-// A row of domains.
-fn domain_row(bytes: &[u8], place: u16) -> [u8; DOMAINS]
-    ensures { result ≡ row_in domain_limit bytes.now place }
+// The row that begins at a place.
+fn row<const N: usize>(bytes: &[u8], place: u16) -> [u8; N]
+    requires { N ≤ request_slots }
+    ensures { result ≡ row_in N bytes.now place }
 {
-    let mut row = [0; DOMAINS];
+    let mut row = [0; N];
     fill(&mut row, bytes, place);
     row
 }
 
-// A topology.
-fn entry_row(bytes: &[u8], place: u16) -> [u8; ENTRIES]
-    ensures { result ≡ row_in entry_limit bytes.now place }
-{
-    let mut row = [0; ENTRIES];
-    fill(&mut row, bytes, place);
-    row
-}
-
-// A table by level and CPU.
-fn request_row(bytes: &[u8], place: u16) -> [u8; REQUESTS]
-    ensures { result ≡ row_in request_slots bytes.now place }
-{
-    let mut row = [0; REQUESTS];
-    fill(&mut row, bytes, place);
-    row
-}
-
-// The affinity that a byte stands for.
+// The affinity that a byte stands for: no TryFrom, for every byte stands for one; no From, for the type is of another crate.
 pub fn affinity_in(byte: u8) -> AffinityInfo
     ensures { result ≡ affinity_in byte }
 {
-    if byte == 0 {
-        return AffinityInfo::On;
+    match byte {
+        0 => AffinityInfo::On,
+        1 => AffinityInfo::Off,
+        _ => AffinityInfo::OnPending,
     }
-    if byte == 1 {
-        return AffinityInfo::Off;
-    }
-    AffinityInfo::OnPending
 }
 
 // The mode that a byte stands for.
 pub fn mode_in(byte: u8) -> SuspendMode
     ensures { result ≡ mode_in byte }
 {
-    if byte == 0 {
-        return SuspendMode::PlatformCoordinated;
+    match byte {
+        0 => SuspendMode::PlatformCoordinated,
+        _ => SuspendMode::OsInitiated,
     }
-    SuspendMode::OsInitiated
 }
 
 // The entry that three numbers stand for.
-pub fn entry_in(held: u8, address: u64, context: u64) -> Entry
+pub fn entry_in(held: u8, address: u64, context: u64) -> Option<EntryPoint>
     ensures { result ≡ entry_in held address context }
 {
     if held == 0 {
-        return Entry::Nothing;
+        return None;
     }
-    Entry::Held(EntryPoint { address, context })
+    Some(EntryPoint { address, context })
 }
 
 // The CPU whose bytes begin at a place.
@@ -109,9 +90,8 @@ fn cpus_in(bytes: &[u8], place: u16) -> [CpuPowerNode; CPUS]
 {
     let nothing = no_cpu();
     let mut cpus = [nothing; CPUS];
-    for c in 0..CPUS {
-        let node = cpu_in(bytes, place as u32 + 20 * c as u32);
-        cpus[c] = node;
+    for (c, cpu) in cpus.iter_mut().enumerate() {
+        *cpu = cpu_in(bytes, place as u32 + 20 * c as u32);
     }
     cpus
 }
@@ -126,7 +106,7 @@ fn board_in(bytes: &[u8]) -> Board
             down: at(bytes, 2),
         },
         primary: CpuNumber(at(bytes, 3)),
-        topology: entry_row(bytes, 4),
+        topology: row(bytes, 4),
     }
 }
 
@@ -136,11 +116,11 @@ fn tree_in(bytes: &[u8]) -> Tree
     Tree {
         domain_count: at(bytes, 21),
         cpu_count: at(bytes, 22),
-        parents: domain_row(bytes, 23),
-        cpu_starts: domain_row(bytes, 39),
-        cpu_ends: domain_row(bytes, 55),
-        child_starts: domain_row(bytes, 71),
-        child_ends: domain_row(bytes, 87),
+        parents: row(bytes, 23),
+        cpu_starts: row(bytes, 39),
+        cpu_ends: row(bytes, 55),
+        child_starts: row(bytes, 71),
+        child_ends: row(bytes, 87),
     }
 }
 
@@ -148,10 +128,10 @@ fn domains_in(bytes: &[u8]) -> Domains
     ensures { result ≡ domains_in bytes.now }
 {
     Domains {
-        states: domain_row(bytes, 423),
-        requests: request_row(bytes, 439),
-        suspends: request_row(bytes, 487),
-        copies: domain_row(bytes, 535),
+        states: row(bytes, 423),
+        requests: row(bytes, 439),
+        suspends: row(bytes, 487),
+        copies: row(bytes, 535),
     }
 }
 

@@ -10,7 +10,6 @@ use Rattle.model.specs.declared.answer.CallAnswer.{CallAnswer}
 use Rattle.model.specs.declared.answer.Notice.{Notice}
 use Rattle.model.specs.declared.answer.Notice.TheVariants as notice
 use Rattle.model.specs.declared.answer.Step.{Step}
-use Rattle.model.specs.declared.code.Code.{Code}
 use Rattle.model.specs.declared.cpu.CpuPowerNode.{CpuPowerNode}
 use Rattle.model.specs.declared.cpu.EntryPoint.{EntryPoint}
 use Rattle.model.specs.declared.sorts.CpuNumber.{CpuNumber}
@@ -21,7 +20,7 @@ use Rattle.model.specs.declared.states.CompositeState.{CompositeState}
 use Rattle.model.specs.Answer.{accepted, decided, nothing_out, not_entered_out}
 use Rattle.model.specs.Calls.{acted, cpu_off_of, cpu_on_of, cpu_suspend_finish_of, cpu_suspend_start_of, entered, for_caller, handle_cpu_boot_of, on_code}
 use Rattle.model.specs.Calls.{set_suspend_mode_of, system_suspend_of, unless_pending}
-use Rattle.model.specs.Numbers.{acceptedb, answer_of, usableb}
+use Rattle.model.specs.Numbers.{Code, acceptedb, answer_of, usableb}
 use Rattle.model.specs.State.{cpu_at, cpu_count_of, no_cpu, platform_at, state_of, with_mode}
 use Rattle.model.specs.StateQuery.{all_onb, others_offb}
 use Rattle.model.specs.Steps.{boot_step, finish_step, off_step, pended_of}

@@ -10,14 +10,13 @@ use Rattle.model.specs.declared.answer.Step.{Step}
 use Rattle.model.specs.declared.board.Tree.{Tree}
 use Rattle.model.specs.declared.call.Call.{Call}
 use Rattle.model.specs.declared.call.Call.TheVariants as call
-use Rattle.model.specs.declared.code.Code.{Code}
 use Rattle.model.specs.declared.cpu.CpuPowerNode.{CpuPowerNode}
 use Rattle.model.specs.declared.cpu.EntryPoint.{EntryPoint}
 use Rattle.model.specs.declared.state.Domains.{Domains}
 use Rattle.model.specs.declared.state.SuspendMode.{SuspendMode}
 use Rattle.model.specs.declared.states.CompositeState.{CompositeState}
 use Rattle.model.specs.declared.states.Platform.{Platform}
-use Rattle.model.specs.Numbers.{acceptedb}
+use Rattle.model.specs.Numbers.{Code, acceptedb}
 use Rattle.in_place.specs.Any.{call_in}
 use Rattle.in_place.specs.Stepped.{decided_on, enter_in, stepped_of}
 use Rattle.in_place.specs.declared.Stepped.{Stepped}

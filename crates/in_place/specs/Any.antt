@@ -4,13 +4,12 @@ use Rattle.cpu_table.specs.CpuTable.{all_on_bytes, others_off_bytes}
 use Rattle.model.specs.declared.board.Tree.{Tree}
 use Rattle.model.specs.declared.call.Call.{Call}
 use Rattle.model.specs.declared.call.Call.TheVariants as call
-use Rattle.model.specs.declared.code.Code.{Code}
 use Rattle.model.specs.declared.cpu.CpuPowerNode.{CpuPowerNode}
 use Rattle.model.specs.declared.sorts.CpuNumber.{CpuNumber}
 use Rattle.model.specs.declared.state.Domains.{Domains}
 use Rattle.model.specs.declared.state.SuspendMode.{SuspendMode}
 use Rattle.model.specs.declared.states.Platform.{Platform}
-use Rattle.model.specs.Numbers.{acceptedb}
+use Rattle.model.specs.Numbers.{Code, acceptedb}
 use Rattle.in_place.specs.declared.any.Moved.{Moved}
 use Rattle.in_place.specs.Stepped.{Outcome, boot_in, finish_in, mode_in, off_in, on_in, outcome, suspend_in, system_suspend_in}
 

@@ -1,11 +1,10 @@
 -- What a call makes of what it reads: the record of the CPU that it names, and the rows of the domains. The rules are those of the calls.
-use Rattle.std.specs.Prelude.{ℕ, Bool, cond, ltb}
+use Rattle.std.specs.Prelude.{ℕ, Bool, cond, ltb, Ok}
 use Rattle.model.specs.declared.answer.Notice.{Notice}
 use Rattle.model.specs.declared.answer.Notice.TheVariants as notice
 use Rattle.model.specs.declared.answer.Step.{Step}
 use Rattle.model.specs.declared.board.Tree.{Tree}
-use Rattle.model.specs.declared.code.Code.{Code}
-use Rattle.model.specs.declared.code.Code.TheVariants as code
+use Rattle.model.specs.declared.code.Refusal.TheVariants as code
 use Rattle.model.specs.declared.cpu.CpuPowerNode.{CpuPowerNode}
 use Rattle.model.specs.declared.cpu.EntryPoint.{EntryPoint}
 use Rattle.model.specs.declared.state.Domains.{Domains}
@@ -16,7 +15,7 @@ use Rattle.model.specs.Answer.{must, not_entered_out}
 use Rattle.model.specs.Calls.{boot_code, finish_code, mode_code, on_code, runningb, suspend_code, system_suspend_code}
 use Rattle.model.specs.Composite.{all_run, find_highest_non_run_level_of, found_of}
 use Rattle.model.specs.Coordinate.{written_to}
-use Rattle.model.specs.Numbers.{acceptedb, answer_of, usableb}
+use Rattle.model.specs.Numbers.{Code, acceptedb, answer_of, usableb}
 use Rattle.model.specs.Steps.{boot_step, coordinated_to, enter_step, finish_step, off_step, pended_of, suspended_of}
 use Rattle.in_place.specs.declared.Stepped.{Stepped}
 
@@ -33,7 +32,7 @@ stepped k node handed = record { code = k; node = node; states = handed }
 
 -- 0 acts, and any other number leaves the record as it was and hands nothing out
 unfoldable pub stepped_of : Code → (was becomes : CpuPowerNode) → CompositeState → Stepped
-stepped_of k was becomes handed = cond (acceptedb k) (stepped code.Accepted becomes handed) (stepped k was all_run)
+stepped_of k was becomes handed = cond (acceptedb k) (stepped (Ok tt) becomes handed) (stepped k was all_run)
 
 -- nor does it change the domains
 unfoldable pub decided_on : Code → CpuPowerNode → Domains → Step → Outcome
@@ -67,7 +66,7 @@ module _ (t : Tree) (p : Platform) (cpu : ℕ) (node : CpuPowerNode) (d : Domain
   abbrev pub entered_in : CompositeState → EntryPoint → Outcome
   entered_in asked e =
       let x = coordinated_to t d p cpu node (found_of (find_highest_non_run_level_of p asked)) asked in
-      outcome (stepped code.Accepted (suspended_of p node x.resolved e) x.resolved) (written_to d x)
+      outcome (stepped (Ok tt) (suspended_of p node x.resolved e) x.resolved) (written_to d x)
 
   -- with an interrupt pending it is not, and nothing changes
   abbrev pub enter_in : Bool → CompositeState → EntryPoint → Notice → Step

@@ -1,7 +1,8 @@
 // The calls of a CPU that goes down: off, suspend and system suspend.
 ghost use Rattle.std.specs.Prelude.{◌≡◌};
-ghost use Rattle.paths.specs.Rows.{domain_rows};
-ghost use Rattle.in_place.specs.Stepped.{entered_in, off_in, outcome, suspend_in, system_suspend_in};
+ghost use Rattle.paths.specs.Rows.{SameRows, lent_domains};
+ghost use Rattle.model.specs.declared.answer.Notice.{Notice};
+ghost use Rattle.in_place.specs.Stepped.{decided_on, enter_in, entered_in, off_in, outcome, suspend_in, system_suspend_in};
 
 use crate::Stepped;
 use checks::caller::for_caller;
@@ -11,44 +12,37 @@ use composite::{all_off, all_run, level_found};
 use coordinate::coordinate_state;
 use cpu_steps::{suspended, turned_off};
 use model::board::Tree;
-use model::code::Code;
+use model::code::{Refusal, of_answer};
 use model::cpu::{CpuPowerNode, EntryPoint};
-use model::limits::{DOMAINS, REQUESTS};
 use model::sorts::CpuNumber;
 use model::state::SuspendMode;
 use model::states::{CompositeState, Platform};
+use paths::DomainRows;
 use states::platform::off;
 use states::request::find_highest_non_run_level;
 
 // CPU_OFF: the caller turns itself off. The platform is asked early whether it may.
 pub fn cpu_off(
     tree: Tree,
-    states: &mut [u8; DOMAINS],
-    requests: &mut [u8; REQUESTS],
-    suspends: &mut [u8; REQUESTS],
-    copies: &mut [u8; DOMAINS],
+    rows: &mut DomainRows,
     p: Platform,
     caller: CpuNumber,
     node: CpuPowerNode,
     early_answer: u8,
 ) -> Stepped
-    ensures { outcome result (domain_rows states.new requests.new suspends.new copies.new)
-        ≡ off_in tree p caller.0 node
-        (domain_rows states.old requests.old suspends.old copies.old) early_answer }
+    ensures same { SameRows rows.old rows.new }
+    ensures value { outcome result (lent_domains rows.new)
+        ≡ off_in tree p caller.0 node (lent_domains rows.old) early_answer }
 {
-    let code = for_caller(
-        caller.0 < tree.cpu_count,
-        node,
-        Code::of_answer(early_answer),
-    );
-    if code.is_accepted() {
+    let code = for_caller(caller.0 < tree.cpu_count, node, of_answer(early_answer));
+    if code.is_ok() {
         let first = node.parent;
         let max = p.max;
         let resolved = coordinate_state(
             tree,
-            states,
-            requests,
-            copies,
+            rows.states,
+            rows.requests,
+            rows.copies,
             off(p),
             first,
             caller,
@@ -56,7 +50,7 @@ pub fn cpu_off(
             all_off(p),
         );
         return Stepped {
-            code: Code::Accepted,
+            code: Ok(()),
             node: turned_off(p, node),
             states: resolved,
         };
@@ -71,27 +65,24 @@ pub fn cpu_off(
 // A suspend is entered: only domains up to the highest affected level are touched.
 fn enter(
     tree: Tree,
-    states: &mut [u8; DOMAINS],
-    requests: &mut [u8; REQUESTS],
-    suspends: &mut [u8; REQUESTS],
-    copies: &mut [u8; DOMAINS],
+    rows: &mut DomainRows,
     p: Platform,
     caller: CpuNumber,
     node: CpuPowerNode,
     entry: EntryPoint,
     asked: CompositeState,
 ) -> Stepped
-    ensures { outcome result (domain_rows states.new requests.new suspends.new copies.new)
-        ≡ entered_in tree p caller.0 node
-        (domain_rows states.old requests.old suspends.old copies.old) asked entry }
+    ensures same { SameRows rows.old rows.new }
+    ensures value { outcome result (lent_domains rows.new)
+        ≡ entered_in tree p caller.0 node (lent_domains rows.old) asked entry }
 {
     let upto = level_found(find_highest_non_run_level(p, asked));
     let first = node.parent;
     let resolved = coordinate_state(
         tree,
-        states,
-        requests,
-        copies,
+        rows.states,
+        rows.requests,
+        rows.copies,
         off(p),
         first,
         caller,
@@ -99,19 +90,50 @@ fn enter(
         asked,
     );
     Stepped {
-        code: Code::Accepted,
+        code: Ok(()),
         node: suspended(p, node, resolved, entry),
         states: resolved,
+    }
+}
+
+// A suspend is entered where the code grants it, but not with an interrupt pending.
+fn suspend(
+    tree: Tree,
+    rows: &mut DomainRows,
+    p: Platform,
+    caller: CpuNumber,
+    node: CpuPowerNode,
+    code: Result<(), Refusal>,
+    pending: bool,
+    entry: EntryPoint,
+    asked: CompositeState,
+) -> Stepped
+    ensures same { SameRows rows.old rows.new }
+    ensures value { (told : Notice) → outcome result (lent_domains rows.new)
+        ≡ decided_on code node (lent_domains rows.old)
+        (enter_in tree p caller.0 node (lent_domains rows.old) pending asked entry told) }
+{
+    if code.is_ok() {
+        if pending {
+            return Stepped {
+                code: Ok(()),
+                node,
+                states: all_run(),
+            };
+        }
+        return enter(tree, rows, p, caller, node, entry, asked);
+    }
+    Stepped {
+        code,
+        node,
+        states: all_run(),
     }
 }
 
 // CPU_SUSPEND up to its wait.
 pub fn cpu_suspend_start(
     tree: Tree,
-    states: &mut [u8; DOMAINS],
-    requests: &mut [u8; REQUESTS],
-    suspends: &mut [u8; REQUESTS],
-    copies: &mut [u8; DOMAINS],
+    rows: &mut DomainRows,
     p: Platform,
     mode: SuspendMode,
     caller: CpuNumber,
@@ -120,39 +142,20 @@ pub fn cpu_suspend_start(
     entry: EntryPoint,
     asked: CompositeState,
 ) -> Stepped
-    ensures { outcome result (domain_rows states.new requests.new suspends.new copies.new)
-        ≡ suspend_in tree p caller.0 node
-        (domain_rows states.old requests.old suspends.old copies.old) mode pending entry asked }
+    ensures same { SameRows rows.old rows.new }
+    ensures value { outcome result (lent_domains rows.new)
+        ≡ suspend_in tree p caller.0 node (lent_domains rows.old) mode pending entry asked }
 {
     let own = suspend_code(p, mode, asked);
     let code = for_caller(caller.0 < tree.cpu_count, node, own);
-    if code.is_accepted() {} else {
-        return Stepped {
-            code,
-            node,
-            states: all_run(),
-        };
-    }
-    if pending {
-        return Stepped {
-            code: Code::Accepted,
-            node,
-            states: all_run(),
-        };
-    }
-    enter(
-        tree, states, requests, suspends, copies, p, caller, node, entry, asked,
-    )
+    suspend(tree, rows, p, caller, node, code, pending, entry, asked)
 }
 
 // SYSTEM_SUSPEND up to its wait: the last CPU that is on suspends to the states that the platform has for this. `last` is whether every
 // other CPU is Off.
 pub fn system_suspend(
     tree: Tree,
-    states: &mut [u8; DOMAINS],
-    requests: &mut [u8; REQUESTS],
-    suspends: &mut [u8; REQUESTS],
-    copies: &mut [u8; DOMAINS],
+    rows: &mut DomainRows,
     p: Platform,
     mode: SuspendMode,
     caller: CpuNumber,
@@ -164,27 +167,11 @@ pub fn system_suspend(
     entry: EntryPoint,
     asked: CompositeState,
 ) -> Stepped
-    ensures { outcome result (domain_rows states.new requests.new suspends.new copies.new)
-        ≡ system_suspend_in tree p caller.0 node
-        (domain_rows states.old requests.old suspends.old copies.old) mode feature last pending address_good entry asked }
+    ensures same { SameRows rows.old rows.new }
+    ensures value { outcome result (lent_domains rows.new)
+        ≡ system_suspend_in tree p caller.0 node (lent_domains rows.old) mode feature last pending address_good entry asked }
 {
     let own = system_suspend_code(p, mode, feature, last, address_good, asked);
     let code = for_caller(caller.0 < tree.cpu_count, node, own);
-    if code.is_accepted() {} else {
-        return Stepped {
-            code,
-            node,
-            states: all_run(),
-        };
-    }
-    if pending {
-        return Stepped {
-            code: Code::Accepted,
-            node,
-            states: all_run(),
-        };
-    }
-    enter(
-        tree, states, requests, suspends, copies, p, caller, node, entry, asked,
-    )
+    suspend(tree, rows, p, caller, node, code, pending, entry, asked)
 }

@@ -8,7 +8,7 @@ use checks::mode::mode_code;
 use checks::on::on_code;
 use composite::all_run;
 use cpu_steps::pended;
-use model::code::Code;
+use model::code::Refusal;
 use model::cpu::{CpuPowerNode, EntryPoint};
 use model::sorts::CpuNumber;
 use model::state::SuspendMode;
@@ -29,9 +29,9 @@ pub fn cpu_on(
     let affinity = node.affinity_info;
     let own = on_code(answer, target.0 < count, address_good, affinity);
     let code = for_caller(caller.0 < count, by, own);
-    if code.is_accepted() {
+    if code.is_ok() {
         return Stepped {
-            code: Code::Accepted,
+            code: Ok(()),
             node: pended(node, entry),
             states: all_run(),
         };
@@ -53,7 +53,7 @@ pub fn set_suspend_mode(
     current: SuspendMode,
     feature: bool,
     mode: SuspendMode,
-) -> Code
+) -> Result<(), Refusal>
     ensures { result ≡ mode_in count caller.0 by feature current mode last all }
 {
     let own = mode_code(feature, current, mode, last, all);

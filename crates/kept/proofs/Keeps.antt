@@ -9,11 +9,10 @@ use Rattle.model.specs.Answer.{accepted, refused}
 use Rattle.model.specs.Composite.{state_at}
 use Rattle.model.specs.declared.answer.Outgoing.{Outgoing}
 use Rattle.model.specs.declared.call.Call.{Call}
-use Rattle.model.specs.declared.code.Code.{Code}
 use Rattle.model.specs.declared.cpu.CpuPowerNode.{CpuPowerNode}
 use Rattle.model.specs.declared.state.Domains.{Domains}
 use Rattle.model.specs.declared.state.State.{State}
-use Rattle.model.specs.Numbers.{acceptedb}
+use Rattle.model.specs.Numbers.{Code, acceptedb}
 use Rattle.model.specs.Path.{above_of}
 use Rattle.model.specs.State.{platform_at, max_at, cpu_at, asked_of}
 use Rattle.script.specs.AnswerRecord.{named_of}

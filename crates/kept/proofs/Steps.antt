@@ -1,4 +1,5 @@
 -- What each accepted call does is a move of the CPU that it names.
+use Rattle.std.specs.Prelude.{None}
 use Prim.Native.Nat.{ℕ, zero, suc, ◌<◌, ◌≤◌}
 use mathlib.Core.Bool.{true, false, not, true≢false, and-eq-true_iff}
 use mathlib.Core.Logic.{inl}
@@ -14,7 +15,6 @@ use Rattle.model.specs.Cpu.{heldb, onb}
 use Rattle.model.specs.declared.cpu.AffinityInfo.{AffinityInfo}
 use Rattle.model.specs.declared.cpu.AffinityInfo.TheVariants as affinity
 use Rattle.model.specs.declared.cpu.CpuPowerNode.{CpuPowerNode}
-use Rattle.model.specs.declared.cpu.Entry.TheVariants as entry
 use Rattle.model.specs.declared.cpu.EntryPoint.{EntryPoint}
 use Rattle.model.specs.declared.state.State.{State}
 use Rattle.model.specs.declared.states.CompositeState.{CompositeState}
@@ -80,7 +80,7 @@ module _ (s : State) (whole : SoundRecord s) (c : ℕ) (is_cpu : c < cpu_count_o
 
   -- a CPU that is on and holds no entry comes up
   comes_up : (r : CpuPowerNode) → r.parent ≡ node.parent → r.affinity_info ≡ affinity.On → r.local_state ≡ run →
-      r.entry_point ≡ entry.Nothing → ComesUp s c r
+      r.entry_point ≡ None → ComesUp s c r
   comes_up r under on runs none = record {
     is_cpu = is_cpu;
     slot = omega (arith, whole.lengths.cpus, in_limit);
@@ -101,7 +101,7 @@ module _ (s : State) (whole : SoundRecord s) (c : ℕ) (is_cpu : c < cpu_count_o
       Moves s c (finished_of p node) (set_running_of s.tree.parents (max_at s) node.parent.0 c s.domains) (λ _. run)
   finish_moves due =
       let on = on_is node.affinity_info ((and-eq-true_iff (onb node.affinity_info) _).0 due).0 in
-      let none : (finished_of p node).entry_point ≡ entry.Nothing =
+      let none : (finished_of p node).entry_point ≡ None =
       by (downb p node.local_state)
       (λ e. simp e)
       (λ e. simp e (none_is node.entry_point (not_held affinity.On node.local_state on refl e))) in

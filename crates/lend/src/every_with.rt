@@ -1,6 +1,6 @@
 // A walk over the first n of a row that is lent, whose test takes the place and a value besides, for any S, Q and test:
 // `fn every(s: &[S], n: usize, x: Q) -> bool`,
-//     let mut i: usize = 0; while i < n { if test(at(s, i), i, x) {} else { return false; } i += 1; } true
+//     for i in 0..n { if !test(at(s, i), i, x) { return false; } } true
 // g l n x says whether the first n of l pass; `none`, `pass` and `fail` are its laws. It meets `result ≡ g s.now n x` wherever
 // `at` meets `result ≡ get_or s.now i d` and `test` meets `result ≡ p y i x`.
 ghost use Rattle.lend.specs.Callee.{Gives, GivesAt};
@@ -21,12 +21,11 @@ pub fn every_with<
         → ((i : ℕ) → i < n → Gives (T.post test (get_or s.now i d) i x) (p (get_or s.now i d) i x))
         → result ≡ g s.now n x }
 {
-    let mut i: usize = 0;
-    while i < n {
-        if test(at(s, i), i, x) {} else {
+    // a number, since the test takes the place, and `at` says what stands past the row's end
+    for i in 0..n {
+        if !test(at(s, i), i, x) {
             return false;
         }
-        i += 1;
     }
     true
 }

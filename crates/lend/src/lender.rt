@@ -3,6 +3,8 @@
 ghost use Rattle.lend.specs.Callee.{GivesAt};
 ghost use Rattle.std.specs.Prelude.{List, ◌≡◌, ℕ};
 
+use crate::lender_with::lender_with;
+
 // What the callee gives of the row.
 pub fn lender<S: Copy, B, const N: usize, F: FnOnce(&[S], usize) -> B>(
     a: [S; N],
@@ -12,5 +14,5 @@ pub fn lender<S: Copy, B, const N: usize, F: FnOnce(&[S], usize) -> B>(
     requires { F.IsAlwaysCallable f }
     ensures { (g : List S → ℕ → B) → GivesAt (λ s r. F.post f s n r) a (g a n) → result ≡ g a n }
 {
-    f(&a, n)
+    lender_with(a, n, (), |s, n, _x| f(s, n))
 }

@@ -3,7 +3,7 @@
 ghost use Rattle.lend.specs.Callee.{Leaves};
 ghost use Rattle.std.specs.Prelude.{◌≡◌};
 
-// What the setter leaves of the record.
+// What the setter leaves of the record. By itself beside `lent_ask`, by which it would need two closures.
 pub fn lent<S, P, F: FnOnce(&mut S, P)>(c: S, x: P, set: F) -> S
     requires { F.IsAlwaysCallable set }
     ensures { (f : S → P → S) → Leaves (λ m left. F.post set m x tt left) c (f c x) → result ≡ f c x }

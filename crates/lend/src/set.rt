@@ -3,7 +3,7 @@
 ghost use Rattle.lend.specs.Callee.{Gives};
 ghost use Rattle.std.specs.Prelude.{◌≡◌};
 
-// The record becomes what `g` makes of it.
+// The record becomes what `g` makes of it. Not by `ask`, which takes a `P: Copy`.
 pub fn set<S: Copy, P, G: FnOnce(S, P) -> S>(s: &mut S, x: P, g: G)
     requires { G.IsAlwaysCallable g }
     ensures { (f : S → P → S) → Gives (G.post g s.old x) (f s.old x) → s.new ≡ f s.old x }

@@ -15,10 +15,7 @@ use rows::least::minimum;
 fn before(level: u8) -> usize
     ensures { result ≡ level - 1 }
 {
-    if level < 1 {
-        return 0;
-    }
-    (level - 1) as usize
+    level.saturating_sub(1) as usize
 }
 
 // Where a CPU stands in a table by level and CPU.
@@ -41,11 +38,11 @@ pub fn put_at_level(row: &mut [u8], level: PowerLevel, cpu: CpuNumber, v: u8)
 {
     if (cpu.0 as usize) < CPUS {
         put(row, place(level, cpu), v);
-        return;
     }
 }
 
-// The shallowest state of a level for the CPUs from start on and before end; OFF where there is none.
+// The shallowest state of a level for the CPUs from start on and before end; OFF where there is none. No `Span`: both callers read the two
+// numbers from two rows.
 pub fn minimum_at_level(row: &[u8], level: PowerLevel, start: u8, end: u8, off: u8) -> u8
     ensures { result ≡ minimum_of end (from_tob start end) (at_level row.now level.0) off }
 {
@@ -56,40 +53,25 @@ pub fn minimum_at_level(row: &[u8], level: PowerLevel, start: u8, end: u8, off: 
     minimum(&row[0..0], start as usize, end as usize, off)
 }
 
-// The part of such a table that is of one level.
+// The part of such a table that is of one level. (Other rows are walked from a place or from their front, to rows of other lengths.)
 pub fn level_row(row: &[u8], level: PowerLevel) -> [u8; CPUS]
     ensures { result ≡ level_row_of row.now level.0 }
 {
     let from = place(level, CpuNumber(0));
     let mut t = [0; CPUS];
-    for i in 0..CPUS {
-        put(&mut t, i, at(row, from + i));
+    for (i, x) in t.iter_mut().enumerate() {
+        *x = at(row, from + i);
     }
     t
 }
 
-// Stores a byte so many places past a start.
-fn put_from(row: &mut [u8], start: usize, i: usize, v: u8)
-    ensures { row.new ≡ set row.old (start + i) v }
-{
-    let n = row.len();
-    if start < n {
-        if i < n - start {
-            row[start + i] = v;
-            return;
-        }
-        return;
-    }
-}
-
-// Stores a byte at each of n places from a start on.
+// Stores a byte at each of n places from a start on. Any start and any n: the row may end before.
 pub fn fill(row: &mut [u8], start: usize, n: u8, v: u8)
     ensures { row.new ≡ filled_of (λ _. v) start n row.old }
 {
-    let count = n as usize;
-    for i in 0..count {
-        put_from(row, start, i, v);
-    }
+    let from = start.min(row.len());
+    let count = (n as usize).min(row.len() - from);
+    row[from..from + count].fill(v);
 }
 
 // A table by level and CPU that holds a byte for so many CPUs at levels 1 to max.
@@ -99,6 +81,7 @@ pub fn levels_filled(v: u8, cpus: u8, max: PowerLevel) -> [u8; REQUESTS]
 {
     let mut t = [0; REQUESTS];
     let levels = max.0 as usize;
+    // a number: how many levels are below
     for i in 0..levels {
         fill(&mut t, i * CPUS, cpus, v);
     }

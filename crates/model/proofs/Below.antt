@@ -1,4 +1,5 @@
 -- Laws on a test over the numbers below a bound.
+use Rattle.std.specs.Prelude.{Some}
 use Prim.Native.Nat.{ℕ, zero, suc, ◌+◌, ◌<◌, ◌≤◌}
 use mathlib.Core.Bool.{Bool, true, false, ◌&&◌, true≢false, and-true, and-eq-true_iff}
 use mathlib.Core.Path.{◌≡◌, refl, sym, ap, ◌∙◌}
@@ -8,7 +9,6 @@ use borrow.Author.Tests.{eqb-true, eqb-false, leb-true, leb-false}
 use lib.Dec.{eqb, leb}
 use Rattle.basics.proofs.Is.{Is}
 use Rattle.basics.proofs.Tests.{by}
-use Rattle.model.specs.declared.states.FoundLevel.TheVariants as found
 use Rattle.model.specs.Below.{every, highest}
 
 module _ (test : ℕ → Bool) where
@@ -61,7 +61,7 @@ module _ (test : ℕ → Bool) where
 
   -- what was found is below n, passes the test, and none above it does; it is found where any number passes
   pub record Highest (n h : ℕ) : Type 0 where
-    pub answered : highest n test ≡ found.At (record { 0 = h })
+    pub answered : highest n test ≡ Some (record { 0 = h })
     pub inside : h < n
     pub passes : test h ≡ true
     pub above : (l : ℕ) → h < l → l < n → test l ≡ false

@@ -1,13 +1,12 @@
 -- docs/REFERENCE.md, 'The calls'.
-use Rattle.std.specs.Prelude.{ℕ, Bool, true, false, cond, not, ◌&&◌, ◌||◌, ltb, eqb, set}
+use Rattle.std.specs.Prelude.{ℕ, Bool, true, false, cond, not, ◌&&◌, ◌||◌, ltb, eqb, set, Ok, Err}
 use Rattle.model.specs.declared.answer.CallAnswer.{CallAnswer}
 use Rattle.model.specs.declared.answer.Notice.{Notice}
 use Rattle.model.specs.declared.answer.Notice.TheVariants as notice
 use Rattle.model.specs.declared.answer.Step.{Step}
 use Rattle.model.specs.declared.call.Call.{Call}
 use Rattle.model.specs.declared.call.Call.TheVariants as call
-use Rattle.model.specs.declared.code.Code.{Code}
-use Rattle.model.specs.declared.code.Code.TheVariants as code
+use Rattle.model.specs.declared.code.Refusal.TheVariants as code
 use Rattle.model.specs.declared.cpu.AffinityInfo.{AffinityInfo}
 use Rattle.model.specs.declared.cpu.CpuPowerNode.{CpuPowerNode}
 use Rattle.model.specs.declared.cpu.EntryPoint.{EntryPoint}
@@ -21,7 +20,7 @@ use Rattle.model.specs.Answer.{nothing_out, not_entered_out, accepted, refused, 
 use Rattle.model.specs.Composite.{highest_level_state_of, states_in_rangeb, found_atb}
 use Rattle.model.specs.Composite.{find_highest_non_run_level_of, is_valid_suspend_requestb}
 use Rattle.model.specs.Cpu.{onb, pendingb}
-use Rattle.model.specs.Numbers.{answer_of, usableb}
+use Rattle.model.specs.Numbers.{Code, answer_of, usableb}
 use Rattle.model.specs.Sound.{entry_dueb}
 use Rattle.model.specs.SoundTest.{soundb}
 use Rattle.model.specs.State.{state_of, platform_at, cpu_count_of, cpu_at, with_mode, with_cpu}
@@ -86,7 +85,7 @@ platform_coordinatedb mode.OsInitiated = false
 abbrev pub suspend_code : Platform → SuspendMode → CompositeState → Code
 suspend_code p m asked =
     must (is_valid_suspend_requestb p asked) code.InvalidParameters
-    (must (platform_coordinatedb m) code.OsInitiated code.Accepted)
+    (must (platform_coordinatedb m) code.OsInitiated (Ok tt))
 
 unfoldable pub cpu_suspend_start_of : State → CpuNumber → Bool → EntryPoint → CompositeState → CallAnswer
 cpu_suspend_start_of s caller pending e asked =
@@ -98,7 +97,7 @@ abbrev pub finish_dueb : CpuPowerNode → Bool
 finish_dueb c = onb c.affinity_info && not (eqb c.local_state run)
 
 abbrev pub finish_code : CpuPowerNode → Code
-finish_code c = must (finish_dueb c) code.NotDue code.Accepted
+finish_code c = must (finish_dueb c) code.NotDue (Ok tt)
 
 unfoldable pub cpu_suspend_finish_of : State → CpuNumber → CallAnswer
 cpu_suspend_finish_of s cpu =
@@ -110,7 +109,7 @@ abbrev pub boot_dueb : Platform → CpuPowerNode → Bool
 boot_dueb p c = entry_dueb p c.affinity_info c.local_state
 
 abbrev pub boot_code : Platform → CpuPowerNode → Code
-boot_code p c = must (boot_dueb p c) code.NotDue code.Accepted
+boot_code p c = must (boot_dueb p c) code.NotDue (Ok tt)
 
 unfoldable pub handle_cpu_boot_of : State → CpuNumber → CallAnswer
 handle_cpu_boot_of s cpu =
@@ -135,7 +134,7 @@ system_suspend_code p m feature last good asked =
     (must (states_in_rangeb p asked) code.Unusable
     (must (at_maxb p asked) code.Denied
     (must (powers_downb p asked) code.Unusable
-    (must (platform_coordinatedb m) code.OsInitiated code.Accepted))))))
+    (must (platform_coordinatedb m) code.OsInitiated (Ok tt)))))))
 
 unfoldable pub system_suspend_of : State → CpuNumber → Bool → Bool → Bool → EntryPoint → CompositeState → CallAnswer
 system_suspend_of s caller feature pending good e asked =
@@ -160,7 +159,7 @@ mode_mayb now wanted last all = same_modeb now wanted || mode_allowedb wanted la
 -- Set mode: -1; the current mode gives 0; -3 unless it is allowed
 abbrev pub mode_code : (feature : Bool) → (now wanted : SuspendMode) → (last all : Bool) → Code
 mode_code feature now wanted last all =
-    must feature code.NotSupported (must (mode_mayb now wanted last all) code.Denied code.Accepted)
+    must feature code.NotSupported (must (mode_mayb now wanted last all) code.Denied (Ok tt))
 
 unfoldable pub set_suspend_mode_of : State → CpuNumber → Bool → SuspendMode → CallAnswer
 set_suspend_mode_of s caller feature wanted =
@@ -179,7 +178,7 @@ body_of s (call.SetMode caller feature wanted) = set_suspend_mode_of s caller fe
 
 -- every call first, as the test of the state came out: 102
 abbrev pub tested : Bool → State → CallAnswer → CallAnswer
-tested sound s a = cond sound a (refused s code.NotSound)
+tested sound s a = cond sound a (refused s (Err code.NotSound))
 
 -- the answer to any call
 abbrev pub call_of : State → Call → CallAnswer

@@ -1,8 +1,7 @@
 -- docs/REFERENCE.md, 'Composite states and suspend requests'.
-use Rattle.std.specs.Prelude.{ℕ, suc, Bool, false, cond, not, ◌&&◌, List, [], ◌∷◌, leb, eqb, get_or}
+use Rattle.std.specs.Prelude.{ℕ, suc, Bool, false, cond, not, ◌&&◌, List, [], ◌∷◌, leb, eqb, get_or, Option, None, Some}
 use Rattle.model.specs.declared.states.CompositeState.{CompositeState}
-use Rattle.model.specs.declared.states.FoundLevel.{FoundLevel}
-use Rattle.model.specs.declared.states.FoundLevel.TheVariants as found
+use Rattle.model.specs.declared.sorts.PowerLevel.{PowerLevel}
 use Rattle.model.specs.declared.states.Kind.{Kind}
 use Rattle.model.specs.declared.states.Platform.{Platform}
 use Rattle.model.specs.Below.{every, highest}
@@ -63,25 +62,25 @@ abbrev pub non_run_atb : Platform → CompositeState → ℕ → Bool
 non_run_atb p c l = leb l p.max.0 && not (eqb (state_at c l) run)
 
 -- the highest level that is not RUN: a suspend's highest affected level
-abbrev pub find_highest_non_run_level_of : Platform → CompositeState → FoundLevel
+abbrev pub find_highest_non_run_level_of : Platform → CompositeState → Option PowerLevel
 find_highest_non_run_level_of p c = highest levels (non_run_atb p c)
 
 -- that level; 0 where there is none
-abbrev pub found_of : FoundLevel → ℕ
-found_of (found.At l) = l.0
-found_of found.Nothing = 0
+abbrev pub found_of : Option PowerLevel → ℕ
+found_of (Some l) = l.0
+found_of None = 0
 
 -- that level is this one
-abbrev pub found_atb : FoundLevel → ℕ → Bool
-found_atb (found.At l) n = eqb l.0 n
-found_atb found.Nothing n = false
+abbrev pub found_atb : Option PowerLevel → ℕ → Bool
+found_atb (Some l) n = eqb l.0 n
+found_atb None n = false
 
 -- a level up to MAX that is power-down
 abbrev pub power_down_atb : Platform → CompositeState → ℕ → Bool
 power_down_atb p c l = leb l p.max.0 && power_downb (kind_at p c l)
 
 -- the highest level that is power-down
-abbrev pub find_highest_power_down_level_of : Platform → CompositeState → FoundLevel
+abbrev pub find_highest_power_down_level_of : Platform → CompositeState → Option PowerLevel
 find_highest_power_down_level_of p c = highest levels (power_down_atb p c)
 
 -- a level's kind is not deeper than the kind below it

@@ -1,15 +1,12 @@
 -- docs/REFERENCE.md, 'CPU records'.
-use Rattle.std.specs.Prelude.{ℕ, Bool, true, false}
-use Rattle.model.specs.declared.code.Code.TheVariants as code
+use Rattle.std.specs.Prelude.{ℕ, Bool, true, false, Ok, Err, Option, None, Some}
+use Rattle.model.specs.declared.code.Refusal.TheVariants as code
 use Rattle.model.specs.declared.cpu.AffinityInfo.{AffinityInfo}
 use Rattle.model.specs.declared.cpu.AffinityInfo.TheVariants as affinity
-use Rattle.model.specs.declared.cpu.CpuAnswer.{CpuAnswer}
 use Rattle.model.specs.declared.cpu.CpuPowerNode.{CpuPowerNode}
-use Rattle.model.specs.declared.cpu.Entry.{Entry}
-use Rattle.model.specs.declared.cpu.Entry.TheVariants as entry
 use Rattle.model.specs.declared.cpu.EntryPoint.{EntryPoint}
-use Rattle.model.specs.declared.cpu.PoppedEntry.{PoppedEntry}
 use Rattle.model.specs.declared.sorts.DomainNumber.{DomainNumber}
+use Rattle.model.specs.Numbers.{Code}
 
 -- the affinity is On
 abbrev pub onb : AffinityInfo → Bool
@@ -30,9 +27,9 @@ pendingb affinity.Off = false
 pendingb affinity.OnPending = true
 
 -- an entry is held
-abbrev pub heldb : Entry → Bool
-heldb entry.Nothing = false
-heldb (entry.Held _) = true
+abbrev pub heldb : Option EntryPoint → Bool
+heldb None = false
+heldb (Some _) = true
 
 -- a new CPU is Off, in state OFF, and holds no entry
 abbrev pub new_of : DomainNumber → ℕ → CpuPowerNode
@@ -40,7 +37,7 @@ new_of parent off = record {
   parent = parent;
   affinity_info = affinity.Off;
   local_state = off;
-  entry_point = entry.Nothing;
+  entry_point = None;
 }
 
 -- the affinity
@@ -70,7 +67,7 @@ set_local_state_of c s = record {
 }
 
 -- the record with another entry
-abbrev pub with_entry : CpuPowerNode → Entry → CpuPowerNode
+abbrev pub with_entry : CpuPowerNode → Option EntryPoint → CpuPowerNode
 with_entry c e = record {
   parent = c.parent;
   affinity_info = c.affinity_info;
@@ -78,14 +75,24 @@ with_entry c e = record {
   entry_point = e;
 }
 
+-- what keeping an entry answers, and the record that it leaves: where it is refused, as it was
+pub record CpuAnswer : Type 0 where
+  pub code : Code
+  pub cpu : CpuPowerNode
+
+-- the entry that was taken out, and the record without it
+pub record PoppedEntry : Type 0 where
+  pub entry : Option EntryPoint
+  pub cpu : CpuPowerNode
+
 -- an entry is kept where none is held; over a held one it is 102, and the record as it was
-abbrev pub kept_over : Entry → CpuPowerNode → EntryPoint → CpuAnswer
-kept_over entry.Nothing c e = record { code = code.Accepted; cpu = with_entry c (entry.Held e) }
-kept_over (entry.Held _) c e = record { code = code.NotSound; cpu = c }
+abbrev pub kept_over : Option EntryPoint → CpuPowerNode → EntryPoint → CpuAnswer
+kept_over None c e = record { code = Ok tt; cpu = with_entry c (Some e) }
+kept_over (Some _) c e = record { code = Err code.NotSound; cpu = c }
 
 abbrev pub set_entry_point_of : CpuPowerNode → EntryPoint → CpuAnswer
 set_entry_point_of c = kept_over c.entry_point c
 
 -- the entry is handed out and cleared
 abbrev pub pop_entry_point_of : CpuPowerNode → PoppedEntry
-pop_entry_point_of c = record { entry = c.entry_point; cpu = with_entry c entry.Nothing }
+pop_entry_point_of c = record { entry = c.entry_point; cpu = with_entry c None }

@@ -1,7 +1,7 @@
 -- docs/REFERENCE.md, 'The fresh state'.
-use Rattle.std.specs.Prelude.{ℕ, cond, List, eqb, get_or, length, replicate}
+use Rattle.std.specs.Prelude.{ℕ, cond, List, eqb, get_or, length, replicate, Ok, Err}
 use Rattle.model.specs.declared.board.Board.{Board}
-use Rattle.model.specs.declared.code.Code.TheVariants as code
+use Rattle.model.specs.declared.code.Refusal.TheVariants as code
 use Rattle.model.specs.declared.cpu.AffinityInfo.TheVariants as affinity
 use Rattle.model.specs.declared.cpu.CpuPowerNode.{CpuPowerNode}
 use Rattle.model.specs.declared.sorts.CpuNumber.{CpuNumber}
@@ -77,5 +77,5 @@ no_state =
 unfoldable pub fresh_of : Platform → CpuNumber → List ℕ → FreshAnswer
 fresh_of p primary t =
     cond (boardb p primary t)
-    (record { code = code.Accepted; state = brought_up (all_off_of p primary t) primary.0 })
-    (record { code = code.BadBoard; state = no_state })
+    (record { code = Ok tt; state = brought_up (all_off_of p primary t) primary.0 })
+    (record { code = Err code.BadBoard; state = no_state })

@@ -1,13 +1,12 @@
 -- docs/REFERENCE.md, 'Node records'.
-use Rattle.std.specs.Prelude.{ℕ, Bool, cond, List, get_or, set, replicate}
-use Rattle.model.specs.declared.code.Code.TheVariants as code
-use Rattle.model.specs.declared.node.NodeAnswer.{NodeAnswer}
+use Rattle.std.specs.Prelude.{ℕ, Bool, cond, List, get_or, set, replicate, Ok, Err, Option}
+use Rattle.model.specs.declared.code.Refusal.TheVariants as code
 use Rattle.model.specs.declared.node.NonCpuPowerNode.{NonCpuPowerNode}
-use Rattle.model.specs.declared.node.Parent.{Parent}
 use Rattle.model.specs.declared.node.Span.{Span}
 use Rattle.model.specs.declared.sorts.CpuNumber.{CpuNumber}
 use Rattle.model.specs.declared.sorts.DomainNumber.{DomainNumber}
 use Rattle.model.specs.Limits.{cpu_limit, domain_limit}
+use Rattle.model.specs.Numbers.{Code}
 use Rattle.model.specs.Span.{span_minimum_of, empty_span, withinb, holdsb, growsb, grown_of}
 
 -- the byte where a CPU has no suspend state
@@ -35,7 +34,7 @@ abbrev pub copy_at : NonCpuPowerNode → ℕ → ℕ
 copy_at n i = get_or n.non_cpu_states i 0
 
 -- a domain of this parent, state, CPU span, child span, requests, suspend states and child copies
-abbrev pub node_of : Parent → ℕ → Span → Span → List ℕ → List ℕ → List ℕ → NonCpuPowerNode
+abbrev pub node_of : Option DomainNumber → ℕ → Span → Span → List ℕ → List ℕ → List ℕ → NonCpuPowerNode
 node_of parent state cpus children requests suspends copies = record {
   parent = parent;
   local_state = state;
@@ -47,17 +46,22 @@ node_of parent state cpus children requests suspends copies = record {
 }
 
 -- a new domain is OFF, and nothing is under it
-abbrev pub new_of : Parent → ℕ → NonCpuPowerNode
+abbrev pub new_of : Option DomainNumber → ℕ → NonCpuPowerNode
 new_of parent off =
     node_of parent off empty_span empty_span (replicate cpu_limit 0) (replicate cpu_limit 0) (replicate domain_limit 0)
 
+-- what a change of a node record answers, and the record that it leaves: where it is refused, as it was
+pub record NodeAnswer : Type 0 where
+  pub code : Code
+  pub node : NonCpuPowerNode
+
 -- accepted, with this record
 abbrev pub accepted_of : NonCpuPowerNode → NodeAnswer
-accepted_of n = record { code = code.Accepted; node = n }
+accepted_of n = record { code = Ok tt; node = n }
 
 -- 109, with this record
 abbrev pub outside_of : NonCpuPowerNode → NodeAnswer
-outside_of n = record { code = code.Outside; node = n }
+outside_of n = record { code = Err code.Outside; node = n }
 
 module _ (n : NonCpuPowerNode) where
   -- its spans and tables

@@ -1,12 +1,9 @@
 -- docs/REFERENCE.md, 'Queries of a node record'.
-use Rattle.std.specs.Prelude.{ℕ, Bool, cond, not, ◌&&◌, eqb}
-use Rattle.model.specs.declared.code.Code.{Code}
-use Rattle.model.specs.declared.code.Code.TheVariants as code
-use Rattle.model.specs.declared.node.Child.{Child}
-use Rattle.model.specs.declared.node.Child.TheVariants as child
+use Rattle.std.specs.Prelude.{ℕ, Bool, cond, not, ◌&&◌, eqb, Result, Ok, Err, Option, None, Some}
+use Rattle.model.specs.declared.code.Refusal.{Refusal}
+use Rattle.model.specs.declared.code.Refusal.TheVariants as code
+use Rattle.model.specs.declared.sorts.DomainNumber.{DomainNumber}
 use Rattle.model.specs.declared.node.NonCpuPowerNode.{NonCpuPowerNode}
-use Rattle.model.specs.declared.node.StateAnswer.{StateAnswer}
-use Rattle.model.specs.declared.node.TestAnswer.{TestAnswer}
 use Rattle.model.specs.declared.sorts.CpuNumber.{CpuNumber}
 use Rattle.model.specs.Below.{every}
 use Rattle.model.specs.Node.{no_suspend_state, has_cpub, has_childb, request_at, suspend_at, copy_at}
@@ -35,32 +32,28 @@ module _ (n : NonCpuPowerNode) (cpu : CpuNumber) where
   others_allow_of = span_minimum_without_of n.cpu_range cpu.0 (λ i. allowed_of (request_at n i) (suspend_at n i))
 
 -- the CPU, and the child if one is given, are in the domain's spans
-abbrev pub asked_insideb : NonCpuPowerNode → CpuNumber → Child → Bool
-asked_insideb n cpu child.Nothing = has_cpub n cpu
-asked_insideb n cpu (child.Given d) = has_cpub n cpu && has_childb n d
+abbrev pub asked_insideb : NonCpuPowerNode → CpuNumber → Option DomainNumber → Bool
+asked_insideb n cpu None = has_cpub n cpu
+asked_insideb n cpu (Some d) = has_cpub n cpu && has_childb n d
 
 -- where a child is given, the shallowest of a state and of the copies of the other children
-abbrev pub with_children_of : NonCpuPowerNode → Child → ℕ → ℕ
-with_children_of n child.Nothing s = s
-with_children_of n (child.Given d) s = span_minimum_without_of n.non_cpu_range d.0 (copy_at n) s
-
--- beside a refusal stands RUN
-abbrev pub refused_state : Code → StateAnswer
-refused_state k = record { code = k; state = run }
+abbrev pub with_children_of : NonCpuPowerNode → Option DomainNumber → ℕ → ℕ
+with_children_of n None s = s
+with_children_of n (Some d) s = span_minimum_without_of n.non_cpu_range d.0 (copy_at n) s
 
 -- 109 for what is outside, 111 for a suspend state beside a request that is not RUN, else the state
-abbrev pub state_answer_of : Bool → Bool → ℕ → StateAnswer
-state_answer_of inside none s =
-    cond inside (cond none (record { code = code.Accepted; state = s }) (refused_state code.SuspendBesideRequest)) (refused_state code.Outside)
+abbrev pub state_answer_of : Bool → Bool → ℕ → Result ℕ Refusal
+state_answer_of inside none s = cond inside (cond none (Ok s) (Err code.SuspendBesideRequest)) (Err code.Outside)
 
 -- the state that a domain may take without regard to one CPU, and to the child on that CPU's path where it is given
-unfoldable pub get_osi_minimal_allowed_state_without_core_of : NonCpuPowerNode → CpuNumber → Child → ℕ → StateAnswer
+unfoldable pub get_osi_minimal_allowed_state_without_core_of : NonCpuPowerNode → CpuNumber → Option DomainNumber → ℕ → Result ℕ Refusal
 get_osi_minimal_allowed_state_without_core_of n cpu child off =
     state_answer_of (asked_insideb n cpu child) (none_besideb n cpu) (with_children_of n child (others_allow_of n cpu off))
 
 -- the CPU is the last to idle where that state is not RUN
-abbrev pub last_to_idle_of : StateAnswer → TestAnswer
-last_to_idle_of a = record { code = a.code; holds = not (eqb a.state run) }
+abbrev pub last_to_idle_of : Result ℕ Refusal → Result Bool Refusal
+last_to_idle_of (Ok s) = Ok (not (eqb s run))
+last_to_idle_of (Err r) = Err r
 
-abbrev pub is_last_cpu_to_idle_of : NonCpuPowerNode → CpuNumber → Child → ℕ → TestAnswer
+abbrev pub is_last_cpu_to_idle_of : NonCpuPowerNode → CpuNumber → Option DomainNumber → ℕ → Result Bool Refusal
 is_last_cpu_to_idle_of n cpu child off = last_to_idle_of (get_osi_minimal_allowed_state_without_core_of n cpu child off)

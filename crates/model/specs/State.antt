@@ -1,10 +1,9 @@
 -- What stands in a state.
-use Rattle.std.specs.Prelude.{ℕ, suc, List, get_or, set, take}
+use Rattle.std.specs.Prelude.{ℕ, suc, List, get_or, set, take, None}
 use Rattle.model.specs.declared.board.Board.{Board}
 use Rattle.model.specs.declared.board.Tree.{Tree}
 use Rattle.model.specs.declared.cpu.AffinityInfo.TheVariants as affinity
 use Rattle.model.specs.declared.cpu.CpuPowerNode.{CpuPowerNode}
-use Rattle.model.specs.declared.cpu.Entry.TheVariants as entry
 use Rattle.model.specs.declared.state.Domains.{Domains}
 use Rattle.model.specs.declared.state.State.{State}
 use Rattle.model.specs.declared.state.SuspendMode.{SuspendMode}
@@ -20,7 +19,7 @@ no_cpu = record {
   parent = record { 0 = 0 };
   affinity_info = affinity.On;
   local_state = 0;
-  entry_point = entry.Nothing;
+  entry_point = None;
 }
 
 -- a CPU's state and, above it, what it asks for in a table of requests

@@ -1,14 +1,10 @@
 -- docs/REFERENCE.md, 'Queries of a state'.
-use Rattle.std.specs.Prelude.{ℕ, ◌-◌, Bool, true, false, cond, ◌||◌, List, leb, ltb, eqb, get_or}
-use Rattle.model.specs.declared.code.Code.{Code}
-use Rattle.model.specs.declared.code.Code.TheVariants as code
+use Rattle.std.specs.Prelude.{ℕ, ◌-◌, Bool, true, false, cond, ◌||◌, List, leb, ltb, eqb, get_or, Result, Ok, Err, Option, None, Some}
+use Rattle.model.specs.declared.code.Refusal.{Refusal}
+use Rattle.model.specs.declared.code.Refusal.TheVariants as code
 use Rattle.model.specs.declared.cpu.CpuPowerNode.{CpuPowerNode}
-use Rattle.model.specs.declared.node.Child.{Child}
-use Rattle.model.specs.declared.node.Child.TheVariants as child
 use Rattle.model.specs.declared.node.NonCpuPowerNode.{NonCpuPowerNode}
-use Rattle.model.specs.declared.node.Parent.{Parent}
-use Rattle.model.specs.declared.node.Parent.TheVariants as parent
-use Rattle.model.specs.declared.node.TestAnswer.{TestAnswer}
+use Rattle.model.specs.declared.sorts.DomainNumber.{DomainNumber}
 use Rattle.model.specs.declared.sorts.CpuNumber.{CpuNumber}
 use Rattle.model.specs.declared.sorts.PowerLevel.{PowerLevel}
 use Rattle.model.specs.declared.state.State.{State}
@@ -22,15 +18,8 @@ use Rattle.model.specs.Table.{level_row_of}
 use Rattle.model.specs.Tree.{no_parent, parent_at, cpu_span_at, child_span_at}
 
 -- the parent that a byte stands for
-abbrev pub parent_of_byte : ℕ → Parent
-parent_of_byte b = cond (eqb b no_parent) parent.Top (parent.Under (record { 0 = b }))
-
--- beside a refusal stands no
-abbrev pub refused_test : Code → TestAnswer
-refused_test k = record { code = k; holds = false }
-
-abbrev pub answered_test : Bool → TestAnswer
-answered_test b = record { code = code.Accepted; holds = b }
+abbrev pub parent_of_byte : ℕ → Option DomainNumber
+parent_of_byte b = cond (eqb b no_parent) None (Some (record { 0 = b }))
 
 -- in a row of CPU records every one of the first n but this one is Off
 abbrev pub others_off_in : List CpuPowerNode → ℕ → ℕ → Bool
@@ -48,37 +37,37 @@ module _ (s : State) where
       (level_row_of s.domains.requests level) (level_row_of s.domains.suspends level) s.domains.copies
 
   -- the domain below the one of a level on a CPU's path; below level 1 there is none
-  abbrev pub child_over : ℕ → ℕ → Child
-  child_over level c = cond (leb 2 level) (child.Given (record { 0 = domain_over s (level - 1) c })) child.Nothing
+  abbrev pub child_over : ℕ → ℕ → Option DomainNumber
+  child_over level c = cond (leb 2 level) (Some (record { 0 = domain_over s (level - 1) c })) None
 
   -- the CPU is the last to idle at a level: always at level 0, and above it if its domain's record says so
-  abbrev pub last_to_idle_at : ℕ → CpuNumber → TestAnswer
+  abbrev pub last_to_idle_at : ℕ → CpuNumber → Result Bool Refusal
   last_to_idle_at level cpu =
-      cond (eqb level 0) (answered_test true)
+      cond (eqb level 0) (Ok true)
       (is_last_cpu_to_idle_of (node_at level (domain_over s level cpu.0)) cpu (child_over level cpu.0) (off_at s))
 
   -- 102 for a state that is not sound, 103 for a number that is no CPU's
-  abbrev pub asked_by : CpuNumber → TestAnswer → TestAnswer
-  asked_by cpu a = cond (soundb s) (cond (ltb cpu.0 (cpu_count_of s)) a (refused_test code.NoCaller)) (refused_test code.NotSound)
+  abbrev pub asked_by : CpuNumber → Result Bool Refusal → Result Bool Refusal
+  asked_by cpu a = cond (soundb s) (cond (ltb cpu.0 (cpu_count_of s)) a (Err code.NoCaller)) (Err code.NotSound)
 
   -- 109 for a level above MAX
-  unfoldable pub is_last_cpu_to_idle_at_power_level_of : CpuNumber → PowerLevel → TestAnswer
+  unfoldable pub is_last_cpu_to_idle_at_power_level_of : CpuNumber → PowerLevel → Result Bool Refusal
   is_last_cpu_to_idle_at_power_level_of cpu level =
-      asked_by cpu (cond (leb level.0 (max_at s)) (last_to_idle_at level.0 cpu) (refused_test code.Outside))
+      asked_by cpu (cond (leb level.0 (max_at s)) (last_to_idle_at level.0 cpu) (Err code.Outside))
 
   -- every CPU but this one is Off
   abbrev pub others_offb : ℕ → Bool
   others_offb = others_off_in s.cpus (cpu_count_of s)
 
   -- 104 for a CPU that is not On
-  unfoldable pub is_last_cpu_of : CpuNumber → TestAnswer
+  unfoldable pub is_last_cpu_of : CpuNumber → Result Bool Refusal
   is_last_cpu_of cpu =
       asked_by cpu
-      (cond (onb (cpu_at s cpu.0).affinity_info) (answered_test (others_offb cpu.0)) (refused_test code.NotRunning))
+      (cond (onb (cpu_at s cpu.0).affinity_info) (Ok (others_offb cpu.0)) (Err code.NotRunning))
 
   -- every CPU is On
   abbrev pub all_onb : Bool
   all_onb = all_on_in s.cpus (cpu_count_of s)
 
-  unfoldable pub are_all_cpus_on_of : TestAnswer
-  are_all_cpus_on_of = cond (soundb s) (answered_test all_onb) (refused_test code.NotSound)
+  unfoldable pub are_all_cpus_on_of : Result Bool Refusal
+  are_all_cpus_on_of = cond (soundb s) (Ok all_onb) (Err code.NotSound)

@@ -1,7 +1,7 @@
 -- docs/REFERENCE.md, 'The platform and its states'.
-use Rattle.std.specs.Prelude.{ℕ, ◌-◌, Bool, true, false, cond, ◌&&◌, leb, ltb, eqb}
-use Rattle.model.specs.declared.code.Code.{Code}
-use Rattle.model.specs.declared.code.Code.TheVariants as code
+use Rattle.std.specs.Prelude.{ℕ, ◌-◌, Bool, true, false, cond, ◌&&◌, leb, ltb, eqb, Ok, Err}
+use Rattle.model.specs.Numbers.{Code}
+use Rattle.model.specs.declared.code.Refusal.TheVariants as code
 use Rattle.model.specs.declared.states.Kind.{Kind}
 use Rattle.model.specs.declared.states.Kind.TheVariants as kind
 use Rattle.model.specs.declared.states.Platform.{Platform}
@@ -26,7 +26,7 @@ platformb p =
 
 -- a platform that is not accepted is answered with 101
 abbrev pub accept_platform_of : Platform → Code
-accept_platform_of p = cond (platformb p) code.Accepted code.BadBoard
+accept_platform_of p = cond (platformb p) (Ok tt) (Err code.BadBoard)
 
 -- the platform has this state
 abbrev pub in_rangeb : Platform → ℕ → Bool

@@ -1,5 +1,5 @@
 -- docs/REFERENCE.md, 'The calls': what each does.
-use Rattle.std.specs.Prelude.{ℕ, false, cond, [], ◌∷◌}
+use Rattle.std.specs.Prelude.{ℕ, false, cond, [], ◌∷◌, None, Some}
 use Rattle.model.specs.declared.answer.Notice.{Notice}
 use Rattle.model.specs.declared.answer.Notice.TheVariants as notice
 use Rattle.model.specs.declared.answer.Outgoing.{Outgoing}
@@ -8,7 +8,6 @@ use Rattle.model.specs.declared.answer.WakeUpReason.TheVariants as wake
 use Rattle.model.specs.declared.board.Tree.{Tree}
 use Rattle.model.specs.declared.cpu.AffinityInfo.TheVariants as affinity
 use Rattle.model.specs.declared.cpu.CpuPowerNode.{CpuPowerNode}
-use Rattle.model.specs.declared.cpu.Entry.TheVariants as entry
 use Rattle.model.specs.declared.cpu.EntryPoint.{EntryPoint}
 use Rattle.model.specs.declared.state.Domains.{Domains}
 use Rattle.model.specs.declared.states.CompositeState.{CompositeState}
@@ -23,7 +22,7 @@ use Rattle.model.specs.States.{run, off_of, downb}
 
 -- On: the target is OnPending and keeps the entry
 abbrev pub pended_of : CpuPowerNode → EntryPoint → CpuPowerNode
-pended_of c e = with_entry (set_affinity_info_of c affinity.OnPending) (entry.Held e)
+pended_of c e = with_entry (set_affinity_info_of c affinity.OnPending) (Some e)
 
 -- the core powers down, with the highest power-down level
 abbrev pub core_power_down : Platform → CompositeState → Notice
@@ -46,7 +45,7 @@ off_out p x =
 -- Suspend: the CPU state becomes the level-0 state; if that is power-down, the entry is kept
 abbrev pub suspended_of : Platform → CpuPowerNode → CompositeState → EntryPoint → CpuPowerNode
 suspended_of p c x e =
-    set_local_state_of (with_entry c (cond (downb p (cpu_level_state_of x)) (entry.Held e) c.entry_point)) (cpu_level_state_of x)
+    set_local_state_of (with_entry c (cond (downb p (cpu_level_state_of x)) (Some e) c.entry_point)) (cpu_level_state_of x)
 
 -- if it is power-down, the SPM is told and the core powers down; then platform suspend; if it is power-down, platform power-down
 abbrev pub suspend_out : Platform → CompositeState → Notice → Outgoing
@@ -57,7 +56,7 @@ suspend_out p x told =
 
 -- Finish: the CPU is RUN; a power-down suspend drops the entry
 abbrev pub finished_of : Platform → CpuPowerNode → CpuPowerNode
-finished_of p c = set_local_state_of (with_entry c (cond (downb p c.local_state) entry.Nothing c.entry_point)) run
+finished_of p c = set_local_state_of (with_entry c (cond (downb p c.local_state) None c.entry_point)) run
 
 -- the states are handed to suspend-finish; a power-down one adds the SPM abandon notice
 abbrev pub finish_out : Platform → CompositeState → Outgoing
@@ -68,14 +67,14 @@ finish_out p x =
 
 -- Boot: the CPU is On and RUN, and its entry is cleared
 abbrev pub booted_of : CpuPowerNode → CpuPowerNode
-booted_of c = running_of (with_entry c entry.Nothing)
+booted_of c = running_of (with_entry c None)
 
 -- the states are handed to on-finish or suspend-finish; which of the two it was, and the entry
 abbrev pub boot_out : CpuPowerNode → CompositeState → Outgoing
 boot_out c x =
     cond (pendingb c.affinity_info)
-    (outgoing x (notices_of (notice.OnFinish x ∷ [])) false wake.CpuOn c.entry_point)
-    (outgoing x (notices_of (notice.SuspendFinish x ∷ [])) false wake.SuspendFinished c.entry_point)
+    (outgoing x (notices_of (notice.OnFinish x ∷ [])) false (Some wake.CpuOn) c.entry_point)
+    (outgoing x (notices_of (notice.SuspendFinish x ∷ [])) false (Some wake.SuspendFinished) c.entry_point)
 
 abbrev step : CpuPowerNode → Domains → Outgoing → Step
 step node domains out = record { node = node; domains = domains; out = out }

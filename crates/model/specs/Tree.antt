@@ -1,8 +1,8 @@
 -- docs/REFERENCE.md, 'The tree'.
-use Rattle.std.specs.Prelude.{ℕ, suc, ◌-◌, cond, List, eqb, get_or, replicate}
+use Rattle.std.specs.Prelude.{ℕ, suc, ◌-◌, cond, List, eqb, get_or, replicate, Ok, Err}
 use Rattle.model.specs.declared.board.Tree.{Tree}
 use Rattle.model.specs.declared.board.TreeAnswer.{TreeAnswer}
-use Rattle.model.specs.declared.code.Code.TheVariants as code
+use Rattle.model.specs.declared.code.Refusal.TheVariants as code
 use Rattle.model.specs.declared.node.Span.{Span}
 use Rattle.model.specs.declared.sorts.CpuNumber.{CpuNumber}
 use Rattle.model.specs.declared.states.Platform.{Platform}
@@ -68,8 +68,8 @@ no_tree = record {
 unfoldable pub tree_answer_of : Platform → CpuNumber → List ℕ → TreeAnswer
 tree_answer_of p primary t =
     cond (boardb p primary t)
-    (record { code = code.Accepted; tree = tree_of t p.max.0; cpu_parents = cpu_parents_of t p.max.0 })
-    (record { code = code.BadBoard; tree = no_tree; cpu_parents = replicate cpu_limit 0 })
+    (record { code = Ok tt; tree = tree_of t p.max.0; cpu_parents = cpu_parents_of t p.max.0 })
+    (record { code = Err code.BadBoard; tree = no_tree; cpu_parents = replicate cpu_limit 0 })
 
 -- the stored span of the CPUs under domain k
 abbrev pub cpu_span_at : Tree → ℕ → Span

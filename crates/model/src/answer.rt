@@ -1,5 +1,5 @@
-use crate::code::Code;
-use crate::cpu::{CpuPowerNode, Entry, EntryPoint};
+use crate::code::Refusal;
+use crate::cpu::{CpuPowerNode, EntryPoint};
 use crate::sorts::PowerLevel;
 use crate::state::{Domains, State};
 use crate::states::CompositeState;
@@ -8,8 +8,6 @@ use crate::states::CompositeState;
 // states, one that wakes the stored ones along its path.
 #[derive(Clone, Copy)]
 pub enum Notice {
-    // an unused place, after the last notice
-    Nothing,
     // the SPM is told of CPU_OFF, of CPU_SUSPEND, of SYSTEM_SUSPEND: `forward_psci_request`
     SpmToldOff,
     SpmToldSuspend(EntryPoint),
@@ -32,20 +30,20 @@ pub enum Notice {
     OnFinish(CompositeState),
 }
 
-// The notices of a call, in order; no call has more.
+// The notices of a call, in order; no call has more. The unused places come last. Five fields: of an array in a field no clause
+// sees the length.
 #[derive(Clone, Copy)]
 pub struct Notices {
-    pub first: Notice,
-    pub second: Notice,
-    pub third: Notice,
-    pub fourth: Notice,
-    pub fifth: Notice,
+    pub first: Option<Notice>,
+    pub second: Option<Notice>,
+    pub third: Option<Notice>,
+    pub fourth: Option<Notice>,
+    pub fifth: Option<Notice>,
 }
 
-// Which wake a boot was: the Rust's `WakeUpReason`.
-#[derive(Clone, Copy)]
+// How a CPU woke: the Rust's `WakeUpReason`.
+#[derive(Clone, Copy, PartialEq, Eq)]
 pub enum WakeUpReason {
-    Nothing,
     CpuOn,
     SuspendFinished,
 }
@@ -58,9 +56,10 @@ pub struct Outgoing {
     pub notices: Notices,
     // a suspend that is accepted, but not entered, since an interrupt is pending
     pub not_entered: bool,
-    pub wake: WakeUpReason,
+    // which wake it was, where a CPU boots
+    pub wake: Option<WakeUpReason>,
     // the entry point that a boot hands out
-    pub entry: Entry,
+    pub entry: Option<EntryPoint>,
 }
 
 // What a call makes of its CPU's record and of the domains, and what goes out.
@@ -71,10 +70,11 @@ pub struct Step {
     pub out: Outgoing,
 }
 
-// What a call answers. Beside a refusal stands the state as it was handed in, and nothing goes out.
+// What a call answers. Beside a refusal stands the state as it was handed in, and nothing goes out. No Result: the theorems
+// `call_keeps` and `off_handed` name the state and what goes out beside the code, of refusals too.
 #[derive(Clone, Copy)]
 pub struct CallAnswer {
-    pub code: Code,
+    pub code: Result<(), Refusal>,
     pub out: Outgoing,
     pub state: State,
 }

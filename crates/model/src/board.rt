@@ -1,9 +1,9 @@
-use crate::code::Code;
+use crate::code::Refusal;
 use crate::limits::{CPUS, DOMAINS, ENTRIES};
 use crate::sorts::CpuNumber;
 use crate::states::Platform;
 
-// The byte that stands where a domain has no parent.
+// The byte that stands where a domain has no parent: no Option, since C hands over the bytes of the row.
 pub const NO_PARENT: u8 = 255;
 
 // What a board is given by.
@@ -12,11 +12,12 @@ pub struct Board {
     pub platform: Platform,
     // the CPU that is up at the start
     pub primary: CpuNumber,
-    // entry 0 counts the top domains, entry k+1 the children of domain k; 0 past the last
+    // entry 0 counts the top domains, entry k+1 the children of domain k; 0 past the last, for there is no heap
     pub topology: [u8; ENTRIES],
 }
 
 // The tree that a topology describes. In each row stands at a domain's number what there is of that domain.
+// Rows and no records in a Vec or a Box: there is no heap, and C keeps these rows (`psci_start`).
 #[derive(Clone, Copy)]
 pub struct Tree {
     // the domain above, or NO_PARENT
@@ -31,10 +32,11 @@ pub struct Tree {
     pub cpu_count: u8,
 }
 
-// The tree of a board, and at each CPU's number the domain directly above it. Beside a refusal all is 0.
+// The tree of a board, and at each CPU's number the domain directly above it. Beside a refusal all is 0. No
+// Result: the definition `soundb` and its law `is_sound` read each part beside the code.
 #[derive(Clone, Copy)]
 pub struct TreeAnswer {
-    pub code: Code,
+    pub code: Result<(), Refusal>,
     pub tree: Tree,
     pub cpu_parents: [u8; CPUS],
 }

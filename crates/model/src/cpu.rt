@@ -1,8 +1,7 @@
-use crate::code::Code;
 use crate::sorts::DomainNumber;
 
 // Whether a CPU is up: DEN0022's AFFINITY_INFO.
-#[derive(Clone, Copy)]
+#[derive(Clone, Copy, PartialEq, Eq, Debug)]
 pub enum AffinityInfo {
     On,
     Off,
@@ -10,17 +9,10 @@ pub enum AffinityInfo {
 }
 
 // Where a CPU goes on when it wakes, and what it is told there.
-#[derive(Clone, Copy)]
+#[derive(Clone, Copy, PartialEq, Eq, Debug)]
 pub struct EntryPoint {
     pub address: u64,
     pub context: u64,
-}
-
-// The entry point that a CPU holds.
-#[derive(Clone, Copy)]
-pub enum Entry {
-    Nothing,
-    Held(EntryPoint),
 }
 
 // A CPU: the Rust's `CpuPowerNode`.
@@ -29,19 +21,6 @@ pub struct CpuPowerNode {
     pub parent: DomainNumber,
     pub affinity_info: AffinityInfo,
     pub local_state: u8,
-    pub entry_point: Entry,
-}
-
-// What a change of a CPU record answers: where it is refused, the record as it was.
-#[derive(Clone, Copy)]
-pub struct CpuAnswer {
-    pub code: Code,
-    pub cpu: CpuPowerNode,
-}
-
-// The entry point that was taken out, and the record without it.
-#[derive(Clone, Copy)]
-pub struct PoppedEntry {
-    pub entry: Entry,
-    pub cpu: CpuPowerNode,
+    // where it goes on, if it is to wake
+    pub entry_point: Option<EntryPoint>,
 }

@@ -19,7 +19,7 @@ pub const REQUESTS: usize = HIGHEST_MAX as usize * CPUS;
 // The most states of a platform.
 pub const STATES: u8 = 16;
 
-// The limit on CPUs: the code's is the definitions'.
+// The limit on CPUs: the code's is the definitions'. (A function for each limit, since each promises its own.)
 pub fn cpu_limit() -> usize
     ensures { result ≡ cpu_limit }
 {

@@ -1,16 +1,16 @@
 use crate::board::{Board, Tree};
-use crate::code::Code;
+use crate::code::Refusal;
 use crate::cpu::CpuPowerNode;
 use crate::limits::{CPUS, DOMAINS, REQUESTS};
 
 // Who coordinates the power states: the Rust's `SuspendMode`.
-#[derive(Clone, Copy)]
+#[derive(Clone, Copy, PartialEq, Eq, Debug)]
 pub enum SuspendMode {
     PlatformCoordinated,
     OsInitiated,
 }
 
-// What changes of the power domains.
+// What changes of the power domains. Rows and no records: C keeps these rows (`psci_start`).
 #[derive(Clone, Copy)]
 pub struct Domains {
     // at each domain's number its state
@@ -23,7 +23,7 @@ pub struct Domains {
     pub copies: [u8; DOMAINS],
 }
 
-// The whole state: what a call takes and gives back. Unused slots are 0.
+// The whole state: what a call takes and gives back. Unused slots are 0: there is no heap.
 #[derive(Clone, Copy)]
 pub struct State {
     pub board: Board,
@@ -33,9 +33,10 @@ pub struct State {
     pub mode: SuspendMode,
 }
 
-// What a start answers: beside a refusal stands a state of zeros, which is not sound.
+// What a start answers: beside a refusal stands a state of zeros, which is not sound. No Result: the theorems `reached` and
+// `board_demand_3` name the state beside the code.
 #[derive(Clone, Copy)]
 pub struct FreshAnswer {
-    pub code: Code,
+    pub code: Result<(), Refusal>,
     pub state: State,
 }

@@ -1,7 +1,7 @@
 use crate::sorts::PowerLevel;
 
 // The platform's part of a board.
-#[derive(Clone, Copy)]
+#[derive(Clone, Copy, PartialEq, Eq, Debug)]
 pub struct Platform {
     // MAX, the top level
     pub max: PowerLevel,
@@ -12,25 +12,19 @@ pub struct Platform {
 }
 
 // The kind of a state: the Rust's `PowerStateType`.
-#[derive(Clone, Copy)]
+#[derive(Clone, Copy, PartialEq, Eq, Debug)]
 pub enum Kind {
     Running,
     Retention,
     PowerDown,
 }
 
-// A state for each level, from the CPU up: the Rust's `PsciCompositePowerState`.
-#[derive(Clone, Copy)]
+// A state for each level, from the CPU up: the Rust's `PsciCompositePowerState`. Four fields: of an array in a field no clause
+// sees the length.
+#[derive(Clone, Copy, PartialEq, Eq, Debug)]
 pub struct CompositeState {
     pub level0: u8,
     pub level1: u8,
     pub level2: u8,
     pub level3: u8,
-}
-
-// What a search among the levels finds.
-#[derive(Clone, Copy)]
-pub enum FoundLevel {
-    At(PowerLevel),
-    Nothing,
 }

@@ -2,11 +2,11 @@ ghost use Rattle.std.specs.Prelude.{◌≡◌, ◌<◌};
 ghost use Rattle.model.specs.Node.{assign_cpu_of, assign_non_cpu_of};
 ghost use Rattle.model.specs.Span.{grown_of};
 
-use crate::answers::{accepted, outside};
+use model::code::Refusal;
 use model::limits::{CPUS, DOMAINS};
-use model::node::{NO_SUSPEND_STATE, NodeAnswer, NonCpuPowerNode, Span};
+use model::node::{NO_SUSPEND_STATE, NonCpuPowerNode, Span};
 use model::sorts::{CpuNumber, DomainNumber};
-use rows::tables::{with_cpu, with_domain};
+use rows::cells::put;
 use spans::{empty, grows};
 
 // The span grown by a number.
@@ -22,42 +22,32 @@ fn grown(span: Span, i: u8) -> Span
 }
 
 // Enters a CPU into the span, with request OFF and no suspend state.
-pub fn assign_cpu(node: NonCpuPowerNode, cpu: CpuNumber, off: u8) -> NodeAnswer
-    ensures { result ≡ assign_cpu_of node cpu off }
+pub fn assign_cpu(node: &mut NonCpuPowerNode, cpu: CpuNumber, off: u8) -> Result<(), Refusal>
+    ensures answer { result ≡ (assign_cpu_of node.old cpu off).code }
+    ensures left { node.new ≡ (assign_cpu_of node.old cpu off).node }
 {
-    let span = node.cpu_range;
-    if grows(CPUS, span, cpu.0) {
-        let requests = node.requested_states;
-        let suspends = node.suspend_states;
-        let requested_states = with_cpu(requests, cpu, off);
-        let suspend_states = with_cpu(suspends, cpu, NO_SUSPEND_STATE);
-        let cpu_range = grown(span, cpu.0);
-        let changed = NonCpuPowerNode {
-            cpu_range,
-            requested_states,
-            suspend_states,
-            ..node
-        };
-        return accepted(changed);
+    if !grows(CPUS, node.cpu_range, cpu.0) {
+        return Err(Refusal::Outside);
     }
-    outside(node)
+    node.cpu_range = grown(node.cpu_range, cpu.0);
+    put(&mut node.requested_states, cpu.0 as usize, off);
+    put(&mut node.suspend_states, cpu.0 as usize, NO_SUSPEND_STATE);
+    Ok(())
 }
 
-// Enters a domain directly below into the child span, with its copy OFF.
-pub fn assign_non_cpu(node: NonCpuPowerNode, child: DomainNumber, off: u8) -> NodeAnswer
-    ensures { result ≡ assign_non_cpu_of node child off }
+// Enters a domain directly below into the child span, with its copy OFF. What it shares with `assign_cpu` is `grows` and `grown`.
+pub fn assign_non_cpu(
+    node: &mut NonCpuPowerNode,
+    child: DomainNumber,
+    off: u8,
+) -> Result<(), Refusal>
+    ensures answer { result ≡ (assign_non_cpu_of node.old child off).code }
+    ensures left { node.new ≡ (assign_non_cpu_of node.old child off).node }
 {
-    let span = node.non_cpu_range;
-    if grows(DOMAINS, span, child.0) {
-        let copies = node.non_cpu_states;
-        let non_cpu_states = with_domain(copies, child, off);
-        let non_cpu_range = grown(span, child.0);
-        let changed = NonCpuPowerNode {
-            non_cpu_range,
-            non_cpu_states,
-            ..node
-        };
-        return accepted(changed);
+    if !grows(DOMAINS, node.non_cpu_range, child.0) {
+        return Err(Refusal::Outside);
     }
-    outside(node)
+    node.non_cpu_range = grown(node.non_cpu_range, child.0);
+    put(&mut node.non_cpu_states, child.0 as usize, off);
+    Ok(())
 }

@@ -7,22 +7,22 @@ ghost use Rattle.model.specs.Query.{asked_insideb, get_osi_minimal_allowed_state
 ghost use Rattle.model.specs.Query.{none_besideb, others_allow_of, state_answer_of, with_children_of};
 ghost use Rattle.model.specs.Span.{span_minimum_without_of};
 
-use model::code::Code;
+use model::code::Refusal;
 use model::limits::{CPUS, DOMAINS};
-use model::node::{Child, NonCpuPowerNode, Span, StateAnswer, TestAnswer};
+use model::node::{NonCpuPowerNode, Span};
 use model::sorts::{CpuNumber, DomainNumber};
 use rows::least::minimum_without;
 use rows::others::{allowed_without, none_beside_without};
 use spans::holds;
 
 // Are the CPU, and the child if one is given, in the domain's spans?
-fn asked_inside(node: NonCpuPowerNode, cpu: CpuNumber, child: Child) -> bool
+fn asked_inside(node: NonCpuPowerNode, cpu: CpuNumber, child: Option<DomainNumber>) -> bool
     ensures { result ≡ asked_insideb node cpu child }
 {
     let has_cpu = holds(CPUS, node.cpu_range, cpu.0);
     match child {
-        Child::Nothing => has_cpu,
-        Child::Given(d) => has_cpu & holds(DOMAINS, node.non_cpu_range, d.0),
+        None => has_cpu,
+        Some(d) => has_cpu & holds(DOMAINS, node.non_cpu_range, d.0),
     }
 }
 
@@ -68,38 +68,27 @@ fn copies_without(node: NonCpuPowerNode, span: Span, one: DomainNumber, state: u
 
 // The shallowest of a state and of the copies of the children other than the one given; where none is given, of no child.
 #[tactic(auto, unfolding(model::specs::Minimum::minimum_of))]
-fn with_children(node: NonCpuPowerNode, child: Child, state: u8) -> u8
+fn with_children(node: NonCpuPowerNode, child: Option<DomainNumber>, state: u8) -> u8
     ensures { result ≡ with_children_of node child state }
 {
     let children = node.non_cpu_range;
     match child {
-        Child::Nothing => {
-            copies_without(node, Span { start: 0, end: 0 }, DomainNumber(0), state)
-        }
-        Child::Given(d) => copies_without(node, children, d, state),
+        None => { copies_without(node, Span { start: 0, end: 0 }, DomainNumber(0), state) }
+        Some(d) => copies_without(node, children, d, state),
     }
 }
 
 // 109 for what is outside, 111 for a suspend state beside a request that is not RUN, else the state.
-fn state_answer(inside: bool, none: bool, state: u8) -> StateAnswer
+fn state_answer(inside: bool, none: bool, state: u8) -> Result<u8, Refusal>
     ensures { result ≡ state_answer_of inside none state }
 {
-    if inside {
-        if none {
-            return StateAnswer {
-                code: Code::Accepted,
-                state,
-            };
-        }
-        return StateAnswer {
-            code: Code::SuspendBesideRequest,
-            state: 0,
-        };
+    if !inside {
+        return Err(Refusal::Outside);
     }
-    StateAnswer {
-        code: Code::Outside,
-        state: 0,
+    if !none {
+        return Err(Refusal::SuspendBesideRequest);
     }
+    Ok(state)
 }
 
 // The state that the domain may take without regard to one CPU, and to the child on that CPU's path where it is given.
@@ -107,9 +96,9 @@ fn state_answer(inside: bool, none: bool, state: u8) -> StateAnswer
 pub fn get_osi_minimal_allowed_state_without_core(
     node: NonCpuPowerNode,
     cpu: CpuNumber,
-    child: Child,
+    child: Option<DomainNumber>,
     off: u8,
-) -> StateAnswer
+) -> Result<u8, Refusal>
     ensures { result ≡ get_osi_minimal_allowed_state_without_core_of node cpu child off }
 {
     let inside = asked_inside(node, cpu, child);
@@ -123,15 +112,11 @@ pub fn get_osi_minimal_allowed_state_without_core(
 pub fn is_last_cpu_to_idle(
     node: NonCpuPowerNode,
     cpu: CpuNumber,
-    child: Child,
+    child: Option<DomainNumber>,
     off: u8,
-) -> TestAnswer
+) -> Result<bool, Refusal>
     ensures { result ≡ is_last_cpu_to_idle_of node cpu child off }
 {
-    let a = get_osi_minimal_allowed_state_without_core(node, cpu, child, off);
-    let code = a.code;
-    TestAnswer {
-        code,
-        holds: a.state != 0,
-    }
+    let state = get_osi_minimal_allowed_state_without_core(node, cpu, child, off)?;
+    Ok(state != 0)
 }

@@ -1,4 +1,5 @@
 // Numbers in bytes, the lowest byte first; past the end a byte is 0.
+// Three functions: each is made of the one of half its width, and one for all widths would need a trait and a cast for each type.
 #![tactic(auto)]
 
 ghost use Rattle.std.specs.Prelude.{◌≡◌};

@@ -1,17 +1,15 @@
 // What goes out with an answer.
 #![tactic(auto)]
 
-ghost use Rattle.std.specs.Prelude.{◌≡◌, false, []};
+ghost use Rattle.std.specs.Prelude.{◌≡◌, false, [], None};
 ghost use Rattle.model.specs.Answer.{not_entered_out, nothing_out, notices_of, outgoing, refused};
-ghost use Rattle.model.specs.declared.answer.WakeUpReason.TheVariants as wake;
-ghost use Rattle.model.specs.declared.cpu.Entry.TheVariants as entry;
 ghost use Rattle.model.specs.Steps.{boot_out, core_power_down, finish_out, off_out, suspend_out};
 
 use composite::{all_run, is_down, level_found};
 use cpu::is_pending;
 use model::answer::{CallAnswer, Notice, Notices, Outgoing, WakeUpReason};
-use model::code::Code;
-use model::cpu::{CpuPowerNode, Entry};
+use model::code::Refusal;
+use model::cpu::CpuPowerNode;
 use model::state::State;
 use model::states::{CompositeState, Platform};
 use states::composite::cpu_level_state;
@@ -22,11 +20,11 @@ fn no_notices() -> Notices
     ensures { result ≡ notices_of [] }
 {
     Notices {
-        first: Notice::Nothing,
-        second: Notice::Nothing,
-        third: Notice::Nothing,
-        fourth: Notice::Nothing,
-        fifth: Notice::Nothing,
+        first: None,
+        second: None,
+        third: None,
+        fourth: None,
+        fifth: None,
     }
 }
 
@@ -38,7 +36,7 @@ pub fn nothing_out() -> Outgoing
 }
 
 // A refusal: the state as it was handed in, and nothing goes out.
-pub fn refused(state: State, code: Code) -> CallAnswer
+pub fn refused(state: State, code: Result<(), Refusal>) -> CallAnswer
     ensures { result ≡ refused state code }
 {
     CallAnswer {
@@ -56,21 +54,21 @@ pub fn not_entered_out() -> Outgoing
         states: all_run(),
         notices: no_notices(),
         not_entered: true,
-        wake: WakeUpReason::Nothing,
-        entry: Entry::Nothing,
+        wake: None,
+        entry: None,
     }
 }
 
 // The states are handed to the platform, and these notices go out.
 fn with_notices(states: CompositeState, notices: Notices) -> Outgoing
-    ensures { result ≡ outgoing states notices false wake.Nothing entry.Nothing }
+    ensures { result ≡ outgoing states notices false None None }
 {
     Outgoing {
         states,
         notices,
         not_entered: false,
-        wake: WakeUpReason::Nothing,
-        entry: Entry::Nothing,
+        wake: None,
+        entry: None,
     }
 }
 
@@ -86,11 +84,11 @@ pub fn off_out(p: Platform, x: CompositeState) -> Outgoing
     ensures { result ≡ off_out p x }
 {
     let notices = Notices {
-        first: Notice::SpmToldOff,
-        second: Notice::SpmNotifiedOff,
-        third: core_power_down(p, x),
-        fourth: Notice::PlatformOff(x),
-        fifth: Notice::PlatformPowerDown(x),
+        first: Some(Notice::SpmToldOff),
+        second: Some(Notice::SpmNotifiedOff),
+        third: Some(core_power_down(p, x)),
+        fourth: Some(Notice::PlatformOff(x)),
+        fifth: Some(Notice::PlatformPowerDown(x)),
     };
     with_notices(x, notices)
 }
@@ -102,16 +100,16 @@ pub fn suspend_out(p: Platform, x: CompositeState, told: Notice) -> Outgoing
 {
     if is_down(p, cpu_level_state(x)) {
         let notices = Notices {
-            first: told,
-            second: core_power_down(p, x),
-            third: Notice::PlatformSuspend(x),
-            fourth: Notice::PlatformPowerDown(x),
-            fifth: Notice::Nothing,
+            first: Some(told),
+            second: Some(core_power_down(p, x)),
+            third: Some(Notice::PlatformSuspend(x)),
+            fourth: Some(Notice::PlatformPowerDown(x)),
+            fifth: None,
         };
         return with_notices(x, notices);
     }
     let notices = Notices {
-        first: Notice::PlatformSuspend(x),
+        first: Some(Notice::PlatformSuspend(x)),
         ..no_notices()
     };
     with_notices(x, notices)
@@ -121,18 +119,10 @@ pub fn suspend_out(p: Platform, x: CompositeState, told: Notice) -> Outgoing
 pub fn finish_out(p: Platform, x: CompositeState) -> Outgoing
     ensures { result ≡ finish_out p x }
 {
-    if is_down(p, cpu_level_state(x)) {
-        let notices = Notices {
-            first: Notice::SuspendFinish(x),
-            second: Notice::SpmAbandon,
-            ..no_notices()
-        };
-        return with_notices(x, notices);
-    }
-    let no_abandon = Notice::Nothing;
+    let abandon = is_down(p, cpu_level_state(x)).then_some(Notice::SpmAbandon);
     let notices = Notices {
-        first: Notice::SuspendFinish(x),
-        second: no_abandon,
+        first: Some(Notice::SuspendFinish(x)),
+        second: abandon,
         ..no_notices()
     };
     with_notices(x, notices)
@@ -146,26 +136,26 @@ pub fn boot_out(node: CpuPowerNode, x: CompositeState) -> Outgoing
     let entry = node.entry_point;
     if is_pending(affinity) {
         let notices = Notices {
-            first: Notice::OnFinish(x),
+            first: Some(Notice::OnFinish(x)),
             ..no_notices()
         };
         return Outgoing {
             states: x,
             notices,
             not_entered: false,
-            wake: WakeUpReason::CpuOn,
+            wake: Some(WakeUpReason::CpuOn),
             entry,
         };
     }
     let notices = Notices {
-        first: Notice::SuspendFinish(x),
+        first: Some(Notice::SuspendFinish(x)),
         ..no_notices()
     };
     Outgoing {
         states: x,
         notices,
         not_entered: false,
-        wake: WakeUpReason::SuspendFinished,
+        wake: Some(WakeUpReason::SuspendFinished),
         entry,
     }
 }

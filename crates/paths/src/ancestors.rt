@@ -20,6 +20,7 @@ pub fn above(parents: &[u8], domain: DomainNumber, n: u8) -> DomainNumber
     ensures { result ≡ record { 0 = above_of parents.now domain.0 n } }
 {
     let mut d = domain.0;
+    // so many steps: the number is read by the proof alone
     for i in 0..n {
         d = parent_byte(parents, d);
     }
@@ -30,10 +31,7 @@ pub fn above(parents: &[u8], domain: DomainNumber, n: u8) -> DomainNumber
 fn over_first(level: PowerLevel) -> u8
     ensures { result ≡ level.0 - 1 }
 {
-    if level.0 < 1 {
-        return 0;
-    }
-    level.0 - 1
+    level.0.saturating_sub(1)
 }
 
 // The domain of a level on the path that starts at a level-1 domain.
@@ -50,6 +48,7 @@ pub fn level_of(parents: &[u8], max: PowerLevel, domain: DomainNumber) -> PowerL
 {
     let top = max.0;
     let mut d = domain.0;
+    // a number: how many levels the walk went up
     for i in 0..top {
         d = parent_byte(parents, d);
         if d == NO_PARENT {

@@ -8,11 +8,11 @@ use borrow.Author.Tests.{lt-ltb, le-ltb}
 use lib.Dec.{ltb}
 use lib.ListN.{length, take, drop}
 use lib.Seq.{sets}
+use Rattle.std.specs.Prelude.{Err}
 use Rattle.basics.proofs.Tests.{cond_rule}
-use Rattle.model.specs.Numbers.{acceptedb}
+use Rattle.model.specs.Numbers.{Code, acceptedb}
 use Rattle.model.specs.State.{max_at}
-use Rattle.model.specs.declared.code.Code.{Code}
-use Rattle.model.specs.declared.code.Code.TheVariants as code
+use Rattle.model.specs.declared.code.Refusal.TheVariants as code
 use Rattle.model.specs.declared.state.State.{State}
 use Rattle.script.specs.declared.run.RunAnswer.{RunAnswer}
 use Rattle.script.specs.declared.run.Start.{Start}
@@ -35,7 +35,7 @@ run_is s r {a} {b} e f =
 
 module _ (input : List ℕ) where
   -- more than the program takes
-  pub printed_long : input_limit < length input → printed_of input ≡ refused_line code.NoRoom
+  pub printed_long : input_limit < length input → printed_of input ≡ refused_line (Err code.NoRoom)
   unfolding printed_of
   printed_long h = simp (lt-ltb _ _ h)
 
@@ -56,7 +56,7 @@ pub printed_length : (input : List ℕ) → length (printed_of input) ≤ text_m
 unfolding printed_of
 printed_length input =
     let short : List ℕ → Type 0 = λ l. length l ≤ text_most in
-    cond_rule short (ltb input_limit (length input)) (λ _. line code.NoRoom)
+    cond_rule short (ltb input_limit (length input)) (λ _. line (Err code.NoRoom))
     (λ _. cond_rule short (acceptedb (start_of input).code) (λ _. run) (λ _. line (start_of input).code))
   where
     line : (k : Code) → length (refused_line k) ≤ text_most

@@ -7,7 +7,7 @@ ghost use Rattle.script.specs.Printed.{answer_room, event_limit, printed_of, run
 ghost use Rattle.script.specs.Run.{run_of};
 ghost use Rattle.text.specs.Put.{Put};
 
-use model::code::Code;
+use model::code::Refusal;
 use model::state::State;
 use script::limits::{ANSWERS, EVENTS, INPUT};
 use script_run::{run, start};
@@ -32,18 +32,18 @@ fn print_run<'a>(events: &'a [u8], text: &'a mut [u8], state: State) -> usize
     run_text(text, state, &answers[..written], ran.events, closing)
 }
 
-// Puts what is printed for an input at the front of the text, and gives its length back.
+// Puts what is printed for an input at the front of the text, and gives its length back. No String: there is no heap.
 pub fn print_script<'a>(input: &'a [u8], text: &'a mut [u8]) -> usize
     ensures text_after { text.new ≡ sets text.old 0 (printed_of input.now) }
     ensures value { result ≡ length (printed_of input.now) }
     ensures upper_bound { result ≤ text_most }
 {
     if INPUT < input.len() {
-        return refused_line(text, Code::NoRoom);
+        return refused_line(text, Err(Refusal::NoRoom));
     }
     let begun = start(input);
     let code = begun.code;
-    if code.is_accepted() {} else {
+    if code.is_err() {
         return refused_line(text, code);
     }
     let state = begun.state;

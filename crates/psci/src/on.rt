@@ -5,13 +5,10 @@ ghost use Rattle.model.specs.Calls.{call_of};
 
 use crate::Psci;
 use model::answer::CallAnswer;
-use model::code::Code;
 use model::cpu::EntryPoint;
 use model::sorts::CpuNumber;
 use model::state::SuspendMode;
-use outgoing::refused;
 use sound_calls::on::{cpu_on, set_suspend_mode};
-use soundness::sound;
 
 impl Psci {
     // CPU_ON: turns a CPU on. The platform says whether the address is good, and what comes of its own part.
@@ -25,20 +22,13 @@ impl Psci {
     ) -> CallAnswer
         ensures { result ≡ call_of self.state (call.On caller target entry address_good answer) }
     {
-        let known = sound(self.state);
-        if known {
-            return cpu_on(self.state, caller, target, entry, address_good, answer);
-        }
-        refused(self.state, Code::NotSound)
+        self.on_sound(|s| cpu_on(s, caller, target, entry, address_good, answer))
     }
 
     // PSCI_SET_SUSPEND_MODE: sets who coordinates the power states.
     pub fn set_suspend_mode(self, caller: CpuNumber, feature: bool, mode: SuspendMode) -> CallAnswer
         ensures { result ≡ call_of self.state (call.SetMode caller feature mode) }
     {
-        if sound(self.state) {
-            return set_suspend_mode(self.state, caller, feature, mode);
-        }
-        refused(self.state, Code::NotSound)
+        self.on_sound(|s| set_suspend_mode(s, caller, feature, mode))
     }
 }

@@ -7,7 +7,7 @@ use model::sorts::PowerLevel;
 use model::states::Platform;
 use rows::cells;
 use script::limits::TOPOLOGY;
-use script::record::ReadBoard;
+use script::record::BoardRecord;
 
 // Is it a board record: of the length that its topology length says, and not cut?
 fn is_board(input: &[u8]) -> bool
@@ -20,16 +20,20 @@ fn is_board(input: &[u8]) -> bool
 
 // The board: MAX, states, first power-down state, primary, topology length, topology; a missing one is 108.
 #[tactic(auto, unfolding(script::specs::Record::read_board_of))]
-pub fn read_board(input: &[u8]) -> ReadBoard
+pub fn read_board(input: &[u8]) -> Option<BoardRecord>
     ensures { result ≡ read_board_of input.now }
 {
-    if is_board(input) {} else {
-        return ReadBoard::Malformed;
+    if !is_board(input) {
+        return None;
     }
     let platform = Platform {
         max: PowerLevel(cells::at(input, 4)),
         states: cells::at(input, 5),
         down: cells::at(input, 6),
     };
-    ReadBoard::Board(platform, cpu_at(input, 7), size_in(input))
+    Some(BoardRecord {
+        platform,
+        primary: cpu_at(input, 7),
+        next: size_in(input),
+    })
 }

@@ -4,7 +4,7 @@ ghost use Rattle.script.specs.Record.{boot_in, event_if, finish_in, off_in, on_i
 
 use crate::fields::{cpu_at, entry_at, flag, is_flag, mode_at, size_in, states_at, zero_above};
 use model::call::Call;
-use model::code::Code;
+use model::code::is_answer;
 use model::sorts::PowerLevel;
 use rows::cells;
 use script::record::Read;
@@ -13,7 +13,7 @@ use script::record::Read;
 fn event_if(good: bool, call: Call, rest: &[u8]) -> Read
     ensures { result ≡ event_if good call rest.now }
 {
-    if good {} else {
+    if !good {
         return Read::Malformed;
     }
     Read::Event(call, size_in(rest))
@@ -25,7 +25,7 @@ pub fn on_in(rest: &[u8]) -> Read
     ensures { result ≡ on_in rest.now }
 {
     let answer = cells::at(rest, 23);
-    let good = is_flag(rest, 22) & Code::is_answer(answer);
+    let good = is_flag(rest, 22) & is_answer(answer);
     let call = Call::On(
         cpu_at(rest, 4),
         cpu_at(rest, 5),
@@ -43,7 +43,7 @@ pub fn off_in(rest: &[u8]) -> Read
 {
     let early = cells::at(rest, 5);
     let call = Call::Off(cpu_at(rest, 4), early);
-    event_if(Code::is_answer(early), call, rest)
+    event_if(is_answer(early), call, rest)
 }
 
 // Suspend: caller, pending, address, context, four states.

@@ -69,7 +69,7 @@ pub fn flag(rest: &[u8], place: u8) -> bool
     cells::at(rest, place as usize) == 1
 }
 
-// A mode: 0 is platform-coordinated, 1 OS-initiated.
+// A mode: 0 is platform-coordinated, 1 OS-initiated. Not `image::mode_in`: a byte above 1 is another mode there.
 pub fn mode_at(rest: &[u8], place: u8) -> SuspendMode
     ensures { result ≡ mode_in rest.now place }
 {
@@ -79,7 +79,7 @@ pub fn mode_at(rest: &[u8], place: u8) -> SuspendMode
     SuspendMode::PlatformCoordinated
 }
 
-// Is the level not above MAX, or its state 0?
+// Is the level not above MAX, or its state 0? (The tests of a level elsewhere share no more with it than the comparison.)
 fn zero_at(max: PowerLevel, level: PowerLevel, state: u8) -> bool
     ensures { result ≡ (leb level.0 max.0 || eqb state 0) }
 {

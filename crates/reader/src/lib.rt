@@ -15,35 +15,22 @@ pub mod board;
 mod events;
 mod fields;
 
-// A record by its kind and the length that this kind has; anything else is 108, a second board too.
+// A record by its kind and the length that this kind has; anything else is 108, a second board too. The numbers of the
+// kinds stand here alone.
 #[tactic(auto, unfolding(script::specs::Record::record_of))]
 fn record_in(rest: &[u8], max: PowerLevel) -> Read
     ensures { result ≡ record_of max.0 rest.now }
 {
-    let size = size_in(rest);
-    let kind = kind_in(rest);
-    if (kind == 1) & (size == 24) {
-        return on_in(rest);
+    match (kind_in(rest), size_in(rest)) {
+        (1, 24) => on_in(rest),
+        (2, 6) => off_in(rest),
+        (3, 26) => suspend_in(rest, max),
+        (4, 5) => finish_in(rest),
+        (5, 5) => boot_in(rest),
+        (6, 28) => system_suspend_in(rest, max),
+        (7, 7) => set_mode_in(rest),
+        _ => Read::Malformed,
     }
-    if (kind == 2) & (size == 6) {
-        return off_in(rest);
-    }
-    if (kind == 3) & (size == 26) {
-        return suspend_in(rest, max);
-    }
-    if (kind == 4) & (size == 5) {
-        return finish_in(rest);
-    }
-    if (kind == 5) & (size == 5) {
-        return boot_in(rest);
-    }
-    if (kind == 6) & (size == 28) {
-        return system_suspend_in(rest, max);
-    }
-    if (kind == 7) & (size == 7) {
-        return set_mode_in(rest);
-    }
-    Read::Malformed
 }
 
 // The next event in what is left of the input: the clean end, 108 for a cut record, and else as the record says.
@@ -51,7 +38,7 @@ fn record_in(rest: &[u8], max: PowerLevel) -> Read
 pub fn read_record(rest: &[u8], max: PowerLevel) -> Read
     ensures { result ≡ read_of max.0 rest.now }
 {
-    if rest.len() == 0 {
+    if rest.is_empty() {
         return Read::End;
     }
     let size = size_in(rest);

@@ -3,15 +3,16 @@
 #![tactic(auto)]
 
 mod base;
+mod change;
 mod cpus;
 mod domains;
-mod field;
 mod queries;
 mod slots;
 mod trees;
 
-use crate::base::state;
-use crate::field::with;
+use crate::base::Base;
+use crate::change::{Change, with};
+use lines::say;
 use soundness::sound;
 
 fn main() {
@@ -23,23 +24,18 @@ fn main() {
     queries::run();
 }
 
-// Writes a statement and whether it holds.
-fn say(statement: &[u8], holds: bool) {
-    io::write_all(1, statement);
-    if holds {
-        io::write_all(1, b": yes\n");
-    } else {
-        io::write_all(1, b": no\n");
-    }
+// Says that a record with these changes is sound.
+fn sound_is(statement: &str, base: Base, changes: &[Change]) {
+    say(
+        format_args!("sound: {statement}"),
+        sound(with(base.state(), changes)),
+    );
 }
 
-// Is the record sound in which byte i of a field is changed to v?
-fn changed(base: u8, f: u8, i: u8, v: u8) -> bool {
-    sound(with(state(base), f, i, v))
-}
-
-// Says that the record in which byte i of a field is changed to v is not sound.
-fn unsound(statement: &[u8], base: u8, f: u8, i: u8, v: u8) {
-    io::write_all(1, b"not sound: ");
-    say(statement, !changed(base, f, i, v));
+// Says that a record with these changes is not sound.
+fn unsound(statement: &str, base: Base, changes: &[Change]) {
+    say(
+        format_args!("not sound: {statement}"),
+        !sound(with(base.state(), changes)),
+    );
 }

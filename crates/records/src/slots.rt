@@ -1,65 +1,89 @@
 // A slot that is not used and not 0.
-use crate::base::FRESH;
-use crate::field::{
-    AFFINITY, COPY, CPU_PARENT, CPU_STATE, ENTRY, REQUEST1, REQUEST3, STATE, SUSPEND1, SUSPEND3,
-    TOPOLOGY,
-};
+use crate::base::Base;
+use crate::change::Change;
 use crate::unsound;
+use model::cpu::AffinityInfo;
 
 fn run_cpus() {
-    unsound(b"a parent where CPU 4 would be", FRESH, CPU_PARENT, 4, 1);
-    unsound(b"affinity Off where CPU 4 would be", FRESH, AFFINITY, 4, 1);
-    unsound(b"state 1 where CPU 4 would be", FRESH, CPU_STATE, 4, 1);
-    unsound(b"an entry held where CPU 15 would be", FRESH, ENTRY, 15, 1);
+    unsound(
+        "a parent where CPU 4 would be",
+        Base::Fresh,
+        &[Change::CpuParent(4, 1)],
+    );
+    unsound(
+        "affinity Off where CPU 4 would be",
+        Base::Fresh,
+        &[Change::Affinity(4, AffinityInfo::Off)],
+    );
+    unsound(
+        "state 1 where CPU 4 would be",
+        Base::Fresh,
+        &[Change::CpuState(4, 1)],
+    );
+    unsound(
+        "an entry held where CPU 15 would be",
+        Base::Fresh,
+        &[Change::EntryHeld(15, true)],
+    );
 }
 
 fn run_requests() {
-    unsound(b"a request where CPU 4 would be", FRESH, REQUEST1, 4, 1);
     unsound(
-        b"a request of CPU 0 at level 3, above MAX",
-        FRESH,
-        REQUEST3,
-        0,
-        1,
+        "a request where CPU 4 would be",
+        Base::Fresh,
+        &[Change::Request(1, 4, 1)],
     );
     unsound(
-        b"a request in the last slot, CPU 15 at level 3",
-        FRESH,
-        REQUEST3,
-        15,
-        3,
+        "a request of CPU 0 at level 3, above MAX",
+        Base::Fresh,
+        &[Change::Request(3, 0, 1)],
+    );
+    unsound(
+        "a request in the last slot, CPU 15 at level 3",
+        Base::Fresh,
+        &[Change::Request(3, 15, 3)],
     );
 }
 
 fn run_suspends() {
     unsound(
-        b"FFh as the suspend state where CPU 4 would be",
-        FRESH,
-        SUSPEND1,
-        4,
-        255,
+        "FFh as the suspend state where CPU 4 would be",
+        Base::Fresh,
+        &[Change::Suspend(1, 4, 255)],
     );
     unsound(
-        b"FFh as the suspend state of CPU 0 at level 3, above MAX",
-        FRESH,
-        SUSPEND3,
-        0,
-        255,
+        "FFh as the suspend state of CPU 0 at level 3, above MAX",
+        Base::Fresh,
+        &[Change::Suspend(3, 0, 255)],
     );
     unsound(
-        b"a suspend state in the last slot, CPU 15 at level 3",
-        FRESH,
-        SUSPEND3,
-        15,
-        1,
+        "a suspend state in the last slot, CPU 15 at level 3",
+        Base::Fresh,
+        &[Change::Suspend(3, 15, 1)],
     );
 }
 
 fn run_domains() {
-    unsound(b"a topology entry past the last", FRESH, TOPOLOGY, 4, 1);
-    unsound(b"a topology entry in the last slot", FRESH, TOPOLOGY, 16, 1);
-    unsound(b"a state where domain 3 would be", FRESH, STATE, 3, 3);
-    unsound(b"a copy where domain 15 would be", FRESH, COPY, 15, 3);
+    unsound(
+        "a topology entry past the last",
+        Base::Fresh,
+        &[Change::Topology(4, 1)],
+    );
+    unsound(
+        "a topology entry in the last slot",
+        Base::Fresh,
+        &[Change::Topology(16, 1)],
+    );
+    unsound(
+        "a state where domain 3 would be",
+        Base::Fresh,
+        &[Change::State(3, 3)],
+    );
+    unsound(
+        "a copy where domain 15 would be",
+        Base::Fresh,
+        &[Change::Copy(15, 3)],
+    );
 }
 
 pub(super) fn run() {

@@ -1,63 +1,92 @@
 // A tree that does not fit its topology, or a board that is not acceptable.
-use crate::base::FRESH;
-use crate::field::{
-    CHILD_END, CHILD_START, CPU_COUNT, CPU_END, CPU_PARENT, CPU_START, DOMAIN_COUNT, MAX, PARENT,
-    PRIMARY, STATES, TOPOLOGY,
-};
+use crate::base::Base;
+use crate::change::Change;
 use crate::unsound;
 
 fn run_rows() {
-    unsound(b"the parent of domain 2 is domain 1", FRESH, PARENT, 2, 1);
-    unsound(b"the CPUs of domain 2 start at 3", FRESH, CPU_START, 2, 3);
-    unsound(b"the CPUs of domain 2 end before 3", FRESH, CPU_END, 2, 3);
     unsound(
-        b"the children of domain 0 start at 2",
-        FRESH,
-        CHILD_START,
-        0,
-        2,
+        "the parent of domain 2 is domain 1",
+        Base::Fresh,
+        &[Change::Parent(2, 1)],
     );
     unsound(
-        b"the children of domain 0 end before 2",
-        FRESH,
-        CHILD_END,
-        0,
-        2,
+        "the CPUs of domain 2 start at 3",
+        Base::Fresh,
+        &[Change::CpuStart(2, 3)],
+    );
+    unsound(
+        "the CPUs of domain 2 end before 3",
+        Base::Fresh,
+        &[Change::CpuEnd(2, 3)],
+    );
+    unsound(
+        "the children of domain 0 start at 2",
+        Base::Fresh,
+        &[Change::ChildStart(0, 2)],
+    );
+    unsound(
+        "the children of domain 0 end before 2",
+        Base::Fresh,
+        &[Change::ChildEnd(0, 2)],
     );
 }
 
 fn run_counts() {
-    unsound(b"the tree has 2 domains", FRESH, DOMAIN_COUNT, 0, 2);
-    unsound(b"the tree has 4 domains", FRESH, DOMAIN_COUNT, 0, 4);
-    unsound(b"the tree has 255 domains", FRESH, DOMAIN_COUNT, 0, 255);
-    unsound(b"the tree has 3 CPUs", FRESH, CPU_COUNT, 0, 3);
-    unsound(b"the tree has 5 CPUs", FRESH, CPU_COUNT, 0, 5);
+    unsound(
+        "the tree has 2 domains",
+        Base::Fresh,
+        &[Change::DomainCount(2)],
+    );
+    unsound(
+        "the tree has 4 domains",
+        Base::Fresh,
+        &[Change::DomainCount(4)],
+    );
+    unsound(
+        "the tree has 255 domains",
+        Base::Fresh,
+        &[Change::DomainCount(255)],
+    );
+    unsound("the tree has 3 CPUs", Base::Fresh, &[Change::CpuCount(3)]);
+    unsound("the tree has 5 CPUs", Base::Fresh, &[Change::CpuCount(5)]);
 }
 
 fn run_board() {
-    unsound(b"CPU 1 is under domain 2", FRESH, CPU_PARENT, 1, 2);
-    unsound(b"the topology is 1,2,2,1", FRESH, TOPOLOGY, 3, 1);
-    unsound(b"the topology is 1,2,2,0", FRESH, TOPOLOGY, 3, 0);
-    unsound(b"the primary is CPU 4", FRESH, PRIMARY, 0, 4);
-    unsound(b"MAX is 3", FRESH, MAX, 0, 3);
-    unsound(b"there is 1 state", FRESH, STATES, 0, 1);
+    unsound(
+        "CPU 1 is under domain 2",
+        Base::Fresh,
+        &[Change::CpuParent(1, 2)],
+    );
+    unsound(
+        "the topology is 1,2,2,1",
+        Base::Fresh,
+        &[Change::Topology(3, 1)],
+    );
+    unsound(
+        "the topology is 1,2,2,0",
+        Base::Fresh,
+        &[Change::Topology(3, 0)],
+    );
+    unsound("the primary is CPU 4", Base::Fresh, &[Change::Primary(4)]);
+    unsound("MAX is 3", Base::Fresh, &[Change::Max(3)]);
+    unsound("there is 1 state", Base::Fresh, &[Change::States(1)]);
 }
 
 fn run_unused() {
-    unsound(b"a parent where there is no domain", FRESH, PARENT, 3, 1);
     unsound(
-        b"a CPU span where there is no domain",
-        FRESH,
-        CPU_END,
-        15,
-        1,
+        "a parent where there is no domain",
+        Base::Fresh,
+        &[Change::Parent(3, 1)],
     );
     unsound(
-        b"a child span where there is no domain",
-        FRESH,
-        CHILD_END,
-        3,
-        1,
+        "a CPU span where there is no domain",
+        Base::Fresh,
+        &[Change::CpuEnd(15, 1)],
+    );
+    unsound(
+        "a child span where there is no domain",
+        Base::Fresh,
+        &[Change::ChildEnd(3, 1)],
     );
 }
 

@@ -1,81 +1,82 @@
 // A case, at the front of what is left of the list.
-ghost use Rattle.std.specs.Prelude.{◌<◌};
-
 use crate::bytes::part;
-use numbers::read_u16;
+use numbers::{read_u16, read_u32};
 use rows::cells::at;
 
-// The places of its fields, as main.rt lists them.
-pub(super) const KIND: usize = 0;
-
-const NAME: usize = 1;
-
-const SCRIPT: usize = 2;
-
-const EXPECTED: usize = 4;
-
-pub(super) const RECORD: usize = 6;
-
-pub(super) const RECORD_AGAIN: usize = 7;
-
-pub(super) const LAST_LINE: usize = 9;
-
-pub(super) const ANSWER: usize = 10;
-
-pub(super) const ANSWER_NUMBER: usize = 11;
-
-pub(super) const ANSWER_AGAIN: usize = 13;
-
-pub(super) const START: usize = 15;
-
-pub(super) const BUDGET: usize = 16;
-
-pub(super) const ROOM: usize = 20;
-
-pub(super) const EVENTS: usize = 22;
-
-pub(super) const CLOSING: usize = 26;
-
+// The bytes before its name.
 const HEAD: usize = 27;
 
-// The kinds.
-pub(super) const RUN: u8 = 1;
-
-const PRINT: u8 = 2;
-
-// Where the script begins; before it stands the name.
-fn script_place(case: &[u8]) -> usize
-    ensures { result < 283 }
-{
-    HEAD + at(case, NAME) as usize
+#[derive(Clone, Copy, PartialEq, Eq)]
+pub(super) enum Kind {
+    Run,
+    Print,
 }
 
-// Where what is expected begins; before it stands the script.
-fn expected_place(case: &[u8]) -> usize
-    ensures { result < 65819 }
-{
-    script_place(case) + read_u16(case, SCRIPT) as usize
+// There is no such kind.
+#[derive(Clone, Copy)]
+pub(super) struct NoKind;
+
+impl TryFrom<u8> for Kind {
+    type Error = NoKind;
+
+    fn try_from(byte: u8) -> Result<Kind, NoKind> {
+        match byte {
+            1 => Ok(Kind::Run),
+            2 => Ok(Kind::Print),
+            _ => Err(NoKind),
+        }
+    }
 }
 
-// The length of the whole case.
-pub(super) fn size(case: &[u8]) -> usize {
-    expected_place(case) + read_u16(case, EXPECTED) as usize
+// Its fields, in the order in which main.rt lists them.
+#[derive(Clone, Copy)]
+pub(super) struct Case<'a> {
+    pub kind: Kind,
+    pub name: &'a [u8],
+    pub script: &'a [u8],
+    pub expected: &'a [u8],
+    pub record: usize,
+    pub record_again: u16,
+    pub last_line: usize,
+    pub answer: usize,
+    pub answer_number: u32,
+    pub answer_again: u16,
+    pub start: u8,
+    pub budget: u32,
+    pub room: usize,
+    pub events: u32,
+    pub closing: u8,
+    // the length of the whole case
+    pub size: usize,
 }
 
-pub(super) fn name(case: &[u8]) -> &[u8] {
-    part(case, HEAD, script_place(case))
-}
-
-pub(super) fn script(case: &[u8]) -> &[u8] {
-    part(case, script_place(case), expected_place(case))
-}
-
-pub(super) fn expected(case: &[u8]) -> &[u8] {
-    part(case, expected_place(case), size(case))
-}
-
-// Is a case there, whole and of a kind that there is?
-pub(super) fn whole(rest: &[u8]) -> bool {
-    let kind = at(rest, KIND);
-    (HEAD <= rest.len()) & (size(rest) <= rest.len()) & ((kind == RUN) | (kind == PRINT))
+impl<'a> Case<'a> {
+    // The case, if one is there, whole and of a kind that there is.
+    pub(super) fn read(rest: &'a [u8]) -> Option<Case<'a>> {
+        let kind = Kind::try_from(at(rest, 0)).ok()?;
+        let script = HEAD + at(rest, 1) as usize;
+        let expected = script + read_u16(rest, 2) as usize;
+        let size = expected + read_u16(rest, 4) as usize;
+        if rest.len() < size {
+            return None;
+        }
+        Some(Case {
+            kind,
+            name: part(rest, HEAD, script),
+            script: part(rest, script, expected),
+            expected: part(rest, expected, size),
+            record: at(rest, 6) as usize,
+            record_again: read_u16(rest, 7),
+            last_line: at(rest, 9) as usize,
+            answer: at(rest, 10) as usize,
+            answer_number: read_u16(rest, 11) as u32,
+            answer_again: read_u16(rest, 13),
+            start: at(rest, 15),
+            budget: read_u32(rest, 16),
+            room: read_u16(rest, 20) as usize,
+            events: read_u32(rest, 22),
+            closing: at(rest, 26),
+            size,
+        })
+    }
 }

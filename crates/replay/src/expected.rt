@@ -1,42 +1,29 @@
 // What is made of a case: the script, and what it must give, answer records or text.
-use crate::bytes::{copy, last, lay, part};
-use crate::case;
-use crate::case::{
-    ANSWER, ANSWER_AGAIN, ANSWER_NUMBER, KIND, LAST_LINE, RECORD, RECORD_AGAIN, RUN,
-};
-use numbers::read_u16;
-use rows::cells::{at, put};
+use crate::bytes::{before_last, lay};
+use crate::case::{Case, Kind};
 use std::num::wrapping_add_u32;
 
-// The same bytes again, so often.
-fn lay_again(row: &mut [u8], from: usize, bytes: &[u8], times: u16) -> usize {
-    let mut place = from;
-    for i in 0..times {
-        place = lay(row, place, bytes);
+// Puts the script at the front of a row, and gives its length.
+pub(super) fn script(case: Case, row: &mut [u8]) -> usize {
+    let (_, record) = before_last(case.script, case.record);
+    let mut place = lay(row, 0, case.script);
+    for _ in 0..case.record_again {
+        place = lay(row, place, record);
     }
     place
-}
-
-// Puts the script at the front of a row, and gives its length.
-pub(super) fn script(case: &[u8], row: &mut [u8]) -> usize {
-    let given = case::script(case);
-    let record = last(given, at(case, RECORD) as usize);
-    let place = lay(row, 0, given);
-    lay_again(row, place, record, read_u16(case, RECORD_AGAIN))
 }
 
 // An answer record like the given one, of the event with this number.
 fn lay_record(row: &mut [u8], place: usize, record: &[u8], number: u32) -> usize {
     let mut answer = [0u8; script::limits::ANSWER];
-    copy(&mut answer, record);
-    put(&mut answer, 4, (number % 256) as u8);
-    put(&mut answer, 5, (number / 256 % 256) as u8);
-    put(&mut answer, 6, (number / 65536 % 256) as u8);
-    put(&mut answer, 7, (number / 16777216) as u8);
+    for (byte, given) in answer.iter_mut().zip(record) {
+        *byte = *given;
+    }
+    answer[4..8].copy_from_slice(&number.to_le_bytes());
     lay(row, place, &answer)
 }
 
-// A number, and the rest of its line.
+// A number, and the rest of its line: digits go into a row of bytes, not to a writer.
 fn lay_line(row: &mut [u8], place: usize, rest: &[u8], number: u32) -> usize {
     let mut digits = [0u8; 20];
     let n = io::decimal(number as u64, &mut digits);
@@ -44,42 +31,19 @@ fn lay_line(row: &mut [u8], place: usize, rest: &[u8], number: u32) -> usize {
     lay(row, next, rest)
 }
 
-// An answer, as a run writes it or as it is printed.
-fn lay_answer(kind: u8, row: &mut [u8], place: usize, answer: &[u8], number: u32) -> usize {
-    if kind == RUN {
-        lay_record(row, place, answer, number)
-    } else {
-        lay_line(row, place, answer, number)
-    }
-}
-
-// The last answer again, as often as the case says, its number counting up.
-fn lay_answers(case: &[u8], row: &mut [u8], from: usize, answer: &[u8]) -> usize {
-    let kind = at(case, KIND);
-    let times = read_u16(case, ANSWER_AGAIN);
-    let mut number = read_u16(case, ANSWER_NUMBER) as u32;
-    let mut place = from;
-    for i in 0..times {
+// Puts what is expected at the front of a row, and gives its length: the last answer comes again, as often as the case says, its number
+// counting up.
+pub(super) fn expected(case: Case, row: &mut [u8]) -> usize {
+    let (answers, end) = before_last(case.expected, case.last_line);
+    let (_, answer) = before_last(answers, case.answer);
+    let mut place = lay(row, 0, answers);
+    let mut number = case.answer_number;
+    for _ in 0..case.answer_again {
         number = wrapping_add_u32(number, 1);
-        place = lay_answer(kind, row, place, answer, number);
+        place = match case.kind {
+            Kind::Run => lay_record(row, place, answer, number),
+            Kind::Print => lay_line(row, place, answer, number),
+        };
     }
-    place
-}
-
-// What stands before the last bytes of a row, so many.
-fn before_last(row: &[u8], count: usize) -> &[u8] {
-    if row.len() < count {
-        return &row[..0];
-    }
-    part(row, 0, row.len() - count)
-}
-
-// Puts what is expected at the front of a row, and gives its length.
-pub(super) fn expected(case: &[u8], row: &mut [u8]) -> usize {
-    let given = case::expected(case);
-    let end = at(case, LAST_LINE) as usize;
-    let answers = before_last(given, end);
-    let place = lay(row, 0, answers);
-    let next = lay_answers(case, row, place, last(answers, at(case, ANSWER) as usize));
-    lay(row, next, last(given, end))
+    lay(row, place, end)
 }

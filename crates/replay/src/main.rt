@@ -28,9 +28,9 @@ mod case;
 mod expected;
 mod list;
 mod play;
+mod progress;
 mod run;
 mod sample;
-mod write;
 
 use crate::bytes::{part, read_front};
 use numbers::read_u32;

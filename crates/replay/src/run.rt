@@ -1,32 +1,38 @@
 // Is a script's run as its case says?
-use crate::case::{BUDGET, CLOSING, EVENTS, START};
+use crate::case::Case;
 use answers::code_byte;
-use model::code::Code;
-use numbers::read_u32;
-use rows::cells::at;
+use model::code::Refusal;
 use script_run::{run, start};
 
 // The start's code, the events that were taken, and why there were no more.
-fn closes(case: &[u8], start: Code, events: u32, closing: Code) -> bool {
-    (code_byte(start) == at(case, START))
-        & (events == read_u32(case, EVENTS))
-        & (code_byte(closing) == at(case, CLOSING))
+fn closes(
+    case: Case,
+    start: Result<(), Refusal>,
+    events: u32,
+    closing: Result<(), Refusal>,
+) -> bool {
+    code_byte(start) == case.start && events == case.events && code_byte(closing) == case.closing
 }
 
-// The start, and the run of what follows the board, whose answers have this length. A board that is refused closes with that number, and
-// nothing is written.
-pub(super) fn is(case: &[u8], input: &[u8], out: &mut [u8], length: usize) -> bool {
-    let s = start(input);
-    let code = s.code;
-    let next = s.next;
-    if code.is_accepted() {} else {
-        return closes(case, code, 0, code) & (length == 0);
-    }
-    if input.len() < next {
+// The start, and the run of what follows the board, on the room that the case gives it, whose answers have this length. A board that is
+// refused closes with that number, and nothing is written.
+pub(super) fn is(case: Case, input: &[u8], out: &mut [u8], length: usize) -> bool {
+    if out.len() < case.room {
         return false;
     }
-    let state = s.state;
-    let a = run(&input[next..], out, state, read_u32(case, BUDGET));
-    let closing = a.closing;
-    closes(case, code, a.events, closing) & (a.written == length)
+    let s = start(input);
+    let code = s.code;
+    if code.is_err() {
+        return closes(case, code, 0, code) && length == 0;
+    }
+    if input.len() < s.next {
+        return false;
+    }
+    let a = run(
+        &input[s.next..],
+        &mut out[..case.room],
+        s.state,
+        case.budget,
+    );
+    closes(case, code, a.events, a.closing) && a.written == length
 }

@@ -10,26 +10,34 @@
 //
 // A reply is the one before it, of zeros at a start, with the runs laid over it. A run is its place in two bytes, its length in
 // one, and its bytes.
-use crate::bytes::{STDIN, fill, lay, part, read_front, same};
-use crate::write::{number, text};
+use crate::bytes::{STDIN, lay, part, read_front};
+use crate::progress::Progress;
 use fresh::no_state;
+use lines::Stdout;
 use model::answer::CallAnswer;
 use model::state::State;
 use numbers::{read_u16, read_u32};
 use rows::cells::at;
+use std::fmt::Write;
 use std::num::{wrapping_add_u32, wrapping_add_usize};
 use traced::{REPLY, event, started, write_reply};
 
 const ITEM: usize = 33;
 
-const START: u8 = 1;
+// What a reply answers.
+#[derive(Clone, Copy, PartialEq, Eq)]
+enum Asked {
+    Start,
+    Event,
+}
 
-// How far the sample is played.
-#[derive(Drop)]
-struct Progress {
-    state: State,
-    replies: u32,
-    differ: u32,
+impl From<u8> for Asked {
+    fn from(byte: u8) -> Asked {
+        match byte {
+            1 => Asked::Start,
+            _ => Asked::Event,
+        }
+    }
 }
 
 // Lays the run at a place over a reply, and gives the place behind it.
@@ -46,86 +54,60 @@ fn lay_run(reply: &mut [u8], runs: &[u8], place: usize) -> usize {
 
 fn lay_runs(reply: &mut [u8], runs: &[u8], count: u16) {
     let mut place = 0usize;
-    for i in 0..count {
+    for _ in 0..count {
         place = lay_run(reply, runs, place);
     }
 }
 
 // Our answer, from the state of our answer before it.
-fn answer(kind: u8, record: &[u8], state: State) -> CallAnswer {
-    if kind == START {
-        started(record)
-    } else {
-        event(state, record)
+fn answer(asked: Asked, record: &[u8], state: State) -> CallAnswer {
+    match asked {
+        Asked::Start => started(record),
+        Asked::Event => event(state, record),
     }
 }
 
-// Says that a reply is another. Gives 1 if it is, else 0.
-fn said(reply: u32, good: bool) -> u32 {
-    if good {
-        return 0;
+// Not as the list says it: of replies only those that differ are written.
+// Says that a reply is another, and gives back whether it is the same.
+fn said(reply: u32, same: bool) -> bool {
+    if !same {
+        let _ = writeln!(Stdout, "sample: reply {reply} DIFFERS");
     }
-    text(b"sample: reply ");
-    number(reply);
-    text(b" DIFFERS\n");
-    1
+    same
 }
 
-// Before a start there is no reply.
-fn clear_at_start(kind: u8, reply: &mut [u8]) {
-    if kind == START {
-        fill(reply, 0);
-        return;
-    }
-}
-
-// The reply that an item tells, laid over the one before it.
+// The reply that an item tells, laid over the one before it; before a start there is none.
 fn told(head: &[u8], runs: &[u8], reply: &mut [u8]) {
-    clear_at_start(at(head, 0), reply);
+    if Asked::from(at(head, 0)) == Asked::Start {
+        reply.fill(0);
+    }
     lay_runs(reply, runs, read_u16(head, 29));
 }
 
 // Plays an item that is read.
-fn play(p: Progress, head: &[u8], runs: &[u8], reply: &mut [u8]) -> Progress {
+fn play(p: Progress<State>, head: &[u8], runs: &[u8], reply: &mut [u8]) -> Progress<State> {
     let mut own = [0u8; REPLY];
     told(head, runs, reply);
-    let before = p.state;
-    let a = answer(at(head, 0), part(head, 1, 29), before);
+    let a = answer(Asked::from(at(head, 0)), part(head, 1, 29), p.at);
     write_reply(&mut own, a);
-    let replies = wrapping_add_u32(p.replies, 1);
-    let differ = wrapping_add_u32(p.differ, said(replies, same(reply, &own)));
-    let state = a.state;
-    Progress {
-        state,
-        replies,
-        differ,
-    }
+    p.and(
+        said(wrapping_add_u32(p.played, 1), &*reply == own.as_slice()),
+        a.state,
+    )
 }
 
 // Reads and plays the next item. Where it is cut, it goes no further.
-fn next(p: Progress, reply: &mut [u8]) -> Progress {
+fn next(p: Progress<State>, reply: &mut [u8]) -> Progress<State> {
     let mut head = [0u8; ITEM];
     let mut runs = io::buffer();
     if io::read_full(STDIN, &mut head) < ITEM {
         return p;
     }
     let n = read_u16(&head, 31) as usize;
-    if read_front(&mut runs, n) {} else {
+    if !read_front(&mut runs, n) {
         return p;
     }
     play(p, &head, part(&runs, 0, n), reply)
-}
-
-fn items(count: u32, reply: &mut [u8]) -> Progress {
-    let mut p = Progress {
-        state: no_state(),
-        replies: 0,
-        differ: 0,
-    };
-    for i in 0..count {
-        p = next(p, reply);
-    }
-    p
 }
 
 // Plays the sample, and says how many replies there are.
@@ -134,16 +116,17 @@ pub(super) fn replay() {
     io::read_full(STDIN, &mut size);
     let count = read_u32(&size, 0);
     let mut reply = [0u8; REPLY];
-    let p = items(count, &mut reply);
-    if p.replies == count {
-        text(b"sample: ");
-        number(count);
-        text(b" replies of the Rust, ");
-        number(p.differ);
-        text(b" differ\n");
-    } else {
-        text(b"sample: cut behind reply ");
-        number(p.replies);
-        text(b"\n");
+    let mut p = Progress::new(no_state());
+    for _ in 0..count {
+        p = next(p, &mut reply);
     }
+    let _ = if p.played == count {
+        writeln!(
+            Stdout,
+            "sample: {count} replies of the Rust, {} differ",
+            p.differ
+        )
+    } else {
+        writeln!(Stdout, "sample: cut behind reply {}", p.played)
+    };
 }

@@ -1,22 +1,25 @@
 ghost use Rattle.std.specs.Prelude.{cond, ◌≡◌, get_or, set};
 
+// What stands at a number; past the row's end it is what stands for nothing.
+pub fn at_or<T: Copy>(row: &[T], i: usize, nothing: T) -> T
+    ensures { result ≡ get_or row.now i nothing }
+{
+    row.get(i).copied().unwrap_or(nothing)
+}
+
 // The byte at a number; past the row's end it is 0.
 pub fn at(row: &[u8], i: usize) -> u8
     ensures { result ≡ get_or row.now i 0 }
 {
-    if i < row.len() {
-        return row[i];
-    }
-    0
+    at_or(row, i, 0)
 }
 
-// Stores a byte at a number; past the row's end nothing is stored.
-pub fn put(row: &mut [u8], i: usize, v: u8)
+// Stores a value at a number; past the row's end nothing is stored.
+pub fn put<T: Copy>(row: &mut [T], i: usize, v: T)
     ensures { row.new ≡ set row.old i v }
 {
     if i < row.len() {
         row[i] = v;
-        return;
     }
 }
 
@@ -26,6 +29,5 @@ pub fn put_if(row: &mut [u8], asked: bool, i: usize, v: u8)
 {
     if asked {
         put(row, i, v);
-        return;
     }
 }

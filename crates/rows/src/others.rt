@@ -5,7 +5,7 @@ ghost use Rattle.model.specs.Query.{allowed_of, besideb};
 ghost use Rattle.model.specs.Span.{from_to_withoutb};
 
 use crate::cells::at;
-use crate::least::lesser_if;
+use crate::least::least_without;
 use model::node::NO_SUSPEND_STATE;
 
 // What a CPU allows its domain: its request, but its suspend state if it has one beside the request RUN.
@@ -29,7 +29,6 @@ pub fn beside(request: u8, suspend: u8) -> bool
 }
 
 // The shallowest that the CPUs from start on and before end allow, but for one of them; OFF where there is none.
-#[tactic(auto, using(minimum::proofs::Span::minimum_before, minimum::proofs::Span::minimum_turn, minimum::proofs::Span::minimum_past))]
 pub fn allowed_without<'a>(
     requests: &'a [u8],
     suspends: &'a [u8],
@@ -41,12 +40,8 @@ pub fn allowed_without<'a>(
     ensures { result ≡ minimum_of end (from_to_withoutb start end one)
         (λ i. allowed_of (get_or requests.now i 0) (get_or suspends.now i 0)) off }
 {
-    let mut m = off;
-    for i in start..end {
-        let state = allowed(at(requests, i), at(suspends, i));
-        m = lesser_if(i != one, state, m);
-    }
-    m
+    let state = |i: usize| allowed(at(requests, i), at(suspends, i));
+    least_without(start, end, one, off, state)
 }
 
 // Has none of those CPUs a suspend state beside a request that is not RUN?
@@ -61,6 +56,7 @@ pub fn none_beside_without<'a>(
         && besideb (get_or requests.now i 0) (get_or suspends.now i 0))) }
 {
     let mut none = true;
+    // a number, since it goes into two rows, and may be the one that is left out
     for i in start..end {
         let both = beside(at(requests, i), at(suspends, i));
         none = none & !((i != one) & both);

@@ -1,12 +1,11 @@
 -- docs/REFERENCE.md, 'The answer record'.
-use Rattle.std.specs.Prelude.{ℕ, Bool, cond, List, ◌∷◌, ◌++◌, ltb, length, drop}
+use Rattle.std.specs.Prelude.{ℕ, Bool, cond, List, ◌∷◌, ◌++◌, ltb, length, drop, Ok, Err}
 use Rattle.model.specs.Composite.{states_of}
-use Rattle.model.specs.Numbers.{number_of}
+use Rattle.model.specs.Numbers.{Code, number_of}
 use Rattle.model.specs.State.{cpu_count_of, states_along}
 use Rattle.model.specs.declared.call.Call.{Call}
 use Rattle.model.specs.declared.call.Call.TheVariants as call
-use Rattle.model.specs.declared.code.Code.{Code}
-use Rattle.model.specs.declared.code.Code.TheVariants as code
+use Rattle.model.specs.declared.code.Refusal.TheVariants as code
 use Rattle.model.specs.declared.sorts.CpuNumber.{CpuNumber}
 use Rattle.model.specs.declared.state.State.{State}
 use Rattle.model.specs.declared.states.CompositeState.{CompositeState}
@@ -51,7 +50,7 @@ fullb out = ltb (length out) answer_size
 
 -- 110 where there is no room
 abbrev pub room_code_of : List ℕ → Code
-room_code_of out = cond (fullb out) code.NoRoom code.Accepted
+room_code_of out = cond (fullb out) (Err code.NoRoom) (Ok tt)
 
 -- a record at the front of the output, where it has room; where it has none, nothing is written
 unfoldable pub onto : List ℕ → List ℕ → List ℕ

@@ -1,9 +1,8 @@
 -- docs/REFERENCE.md, 'What scriptrun reads and prints'. Text is a list of ASCII codes.
-use Rattle.std.specs.Prelude.{ℕ, zero, suc, ◌+◌, ◌*◌, ◌/◌, ◌%◌, cond, List, [], ◌∷◌, ◌++◌, ltb, eqb, ℤ, pos, negsuc, length, drop}
-use Rattle.model.specs.Numbers.{number_of, acceptedb, signed_of}
+use Rattle.std.specs.Prelude.{ℕ, zero, suc, ◌+◌, ◌*◌, ◌/◌, ◌%◌, cond, List, [], ◌∷◌, ◌++◌, ltb, eqb, ℤ, pos, negsuc, length, drop, Err}
+use Rattle.model.specs.Numbers.{Code, number_of, acceptedb, signed_of}
 use Rattle.model.specs.State.{max_at, domain_count_of, cpu_count_of}
-use Rattle.model.specs.declared.code.Code.{Code}
-use Rattle.model.specs.declared.code.Code.TheVariants as code
+use Rattle.model.specs.declared.code.Refusal.TheVariants as code
 use Rattle.model.specs.declared.state.State.{State}
 use Rattle.script.specs.AnswerRecord.{answer_size, no_cpu_state}
 use Rattle.script.specs.Bytes.{byte_at, number_at}
@@ -109,6 +108,6 @@ script_run_of input = run_of event_limit answer_room (drop (start_of input).next
 -- what is printed for an input
 unfoldable pub printed_of : List ℕ → List ℕ
 printed_of input =
-    cond (ltb input_limit (length input)) (refused_line code.NoRoom)
+    cond (ltb input_limit (length input)) (refused_line (Err code.NoRoom))
     (cond (acceptedb (start_of input).code) (run_text (start_of input).state (script_run_of input))
     (refused_line (start_of input).code))

@@ -1,13 +1,12 @@
 -- docs/REFERENCE.md, 'Records'. A record has its length in two bytes, its kind in two bytes, and then its payload.
-use Rattle.std.specs.Prelude.{ℕ, ◌+◌, Bool, true, cond, ◌&&◌, ◌||◌, List, ltb, leb, eqb, length}
+use Rattle.std.specs.Prelude.{ℕ, ◌+◌, Bool, true, cond, ◌&&◌, ◌||◌, List, ltb, leb, eqb, length, Ok, Err, Option, None, Some}
 use Rattle.model.specs.Below.{every}
 use Rattle.model.specs.Composite.{state_at}
 use Rattle.model.specs.Limits.{levels}
-use Rattle.model.specs.Numbers.{usableb}
+use Rattle.model.specs.Numbers.{Code, usableb}
 use Rattle.model.specs.declared.call.Call.{Call}
 use Rattle.model.specs.declared.call.Call.TheVariants as call
-use Rattle.model.specs.declared.code.Code.{Code}
-use Rattle.model.specs.declared.code.Code.TheVariants as code
+use Rattle.model.specs.declared.code.Refusal.TheVariants as code
 use Rattle.model.specs.declared.cpu.EntryPoint.{EntryPoint}
 use Rattle.model.specs.declared.sorts.CpuNumber.{CpuNumber}
 use Rattle.model.specs.declared.state.SuspendMode.{SuspendMode}
@@ -15,19 +14,18 @@ use Rattle.model.specs.declared.state.SuspendMode.TheVariants as mode
 use Rattle.model.specs.declared.states.CompositeState.{CompositeState}
 use Rattle.script.specs.declared.record.Read.{Read}
 use Rattle.script.specs.declared.record.Read.TheVariants as read
-use Rattle.script.specs.declared.record.ReadBoard.{ReadBoard}
-use Rattle.script.specs.declared.record.ReadBoard.TheVariants as board
+use Rattle.script.specs.declared.record.BoardRecord.{BoardRecord}
 use Rattle.script.specs.Bytes.{byte_at, number_at}
 
 -- the number of what was read
 abbrev pub read_code_of : Read → Code
-read_code_of read.End = code.Accepted
-read_code_of (read.Event c next) = code.Accepted
-read_code_of read.Malformed = code.Malformed
+read_code_of read.End = Ok tt
+read_code_of (read.Event c next) = Ok tt
+read_code_of read.Malformed = Err code.Malformed
 
-abbrev pub read_board_code_of : ReadBoard → Code
-read_board_code_of (board.Board p primary next) = code.Accepted
-read_board_code_of board.Malformed = code.Malformed
+abbrev pub read_board_code_of : Option BoardRecord → Code
+read_board_code_of (Some b) = Ok tt
+read_board_code_of None = Err code.Malformed
 
 -- what is left of the input starts with the record
 module _ (l : List ℕ) where
@@ -145,8 +143,12 @@ abbrev pub board_recordb : List ℕ → Bool
 board_recordb l = isb l 16 (topology_place + byte_at l 8) && leb (size_in l) (length l)
 
 -- board: MAX, states, first power-down state, primary, topology length, topology; a missing one is 108
-unfoldable pub read_board_of : List ℕ → ReadBoard
+unfoldable pub read_board_of : List ℕ → Option BoardRecord
 read_board_of l =
     cond (board_recordb l)
-    (board.Board (record { max = record { 0 = byte_at l 4 }; states = byte_at l 5; down = byte_at l 6 }) (cpu_in l 7) (size_in l))
-    board.Malformed
+    (Some (record {
+      platform = record { max = record { 0 = byte_at l 4 }; states = byte_at l 5; down = byte_at l 6 };
+      primary = cpu_in l 7;
+      next = size_in l;
+    }))
+    None

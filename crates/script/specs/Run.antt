@@ -1,18 +1,17 @@
 -- docs/REFERENCE.md, 'A run'.
-use Rattle.std.specs.Prelude.{ℕ, zero, suc, ◌+◌, ◌-◌, ◌*◌, Bool, cond, List, [], ◌++◌, ltb, length, take, drop}
+use Rattle.std.specs.Prelude.{ℕ, zero, suc, ◌+◌, ◌-◌, ◌*◌, Bool, cond, List, [], ◌++◌, ltb, length, take, drop, Ok, Err, Option, None, Some}
 use Rattle.model.specs.Calls.{body_of, tested, call_of}
 use Rattle.model.specs.Fresh.{no_state, fresh_of}
 use Rattle.model.specs.State.{max_at}
 use Rattle.model.specs.declared.answer.CallAnswer.{CallAnswer}
 use Rattle.model.specs.declared.call.Call.{Call}
-use Rattle.model.specs.declared.code.Code.{Code}
-use Rattle.model.specs.declared.code.Code.TheVariants as code
+use Rattle.model.specs.Numbers.{Code}
+use Rattle.model.specs.declared.code.Refusal.TheVariants as code
 use Rattle.model.specs.declared.state.FreshAnswer.{FreshAnswer}
 use Rattle.model.specs.declared.state.State.{State}
 use Rattle.script.specs.declared.record.Read.{Read}
 use Rattle.script.specs.declared.record.Read.TheVariants as read
-use Rattle.script.specs.declared.record.ReadBoard.{ReadBoard}
-use Rattle.script.specs.declared.record.ReadBoard.TheVariants as board
+use Rattle.script.specs.declared.record.BoardRecord.{BoardRecord}
 use Rattle.script.specs.declared.run.EventAnswer.{EventAnswer}
 use Rattle.script.specs.declared.run.RunAnswer.{RunAnswer}
 use Rattle.script.specs.declared.run.Start.{Start}
@@ -28,9 +27,9 @@ abbrev pub start_at : ℕ → FreshAnswer → Start
 start_at next f = record { code = f.code; next = next; state = f.state }
 
 -- a script starts fresh on the board of its first record; 108, or 101
-abbrev pub start_with : ReadBoard → List ℕ → Start
-start_with (board.Board p primary next) l = start_at next (fresh_of p primary (topology_in next l))
-start_with board.Malformed l = record { code = read_board_code_of board.Malformed; next = 0; state = no_state }
+abbrev pub start_with : Option BoardRecord → List ℕ → Start
+start_with (Some b) l = start_at b.next (fresh_of b.platform b.primary (topology_in b.next l))
+start_with None l = record { code = read_board_code_of None; next = 0; state = no_state }
 
 unfoldable pub start_of : List ℕ → Start
 start_of l = start_with (read_board_of l) l
@@ -77,9 +76,9 @@ record_of_event number x = answer_bytes number x.code x.shown
 -- with budget, room in the output and input that are left, and events that are taken. At each event: clean end (0), 112, 108, 110, then
 -- the call, and its answer record
 unfoldable pub run_of : (budget room : ℕ) → List ℕ → ℕ → State → Run
-run_of zero room l taken s = stopped (cond (emptyb l) code.Accepted code.BudgetSpent) taken s
+run_of zero room l taken s = stopped (cond (emptyb l) (Ok tt) (Err code.BudgetSpent)) taken s
 run_of (suc budget) room l taken s =
     event_or (read_of (max_at s) l) (λ closing. stopped closing taken s) (λ c next.
-    cond (ltb room answer_size) (stopped code.NoRoom taken s)
+    cond (ltb room answer_size) (stopped (Err code.NoRoom) taken s)
     (after (record_of_event (taken + 1) (event_answer_of s c))
     (run_of budget (room - answer_size) (drop next l) (taken + 1) (event_answer_of s c).state)))

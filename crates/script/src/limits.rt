@@ -1,7 +1,7 @@
 // The bytes of an answer record.
 pub const ANSWER: usize = 13;
 
-// The byte at each level of an answer record where there is no such CPU.
+// The byte at each level of an answer record where there is no such CPU: no Option, since the record has the byte.
 pub const NO_CPU_STATE: u8 = 255;
 
 // Where the topology stands in a board record.

@@ -2,7 +2,7 @@ use model::call::Call;
 use model::sorts::CpuNumber;
 use model::states::Platform;
 
-// What stands where the next event is to be read.
+// What stands where the next event is to be read. No Result of an Option: three names are plainer.
 #[derive(Drop)]
 pub enum Read {
     // nothing: the input has ended
@@ -13,11 +13,11 @@ pub enum Read {
     Malformed,
 }
 
-// What stands where the board is to be read.
+// What a board record says.
 #[derive(Drop)]
-pub enum ReadBoard {
-    // platform, primary, and the place of the next record; the topology stands before it
-    Board(Platform, CpuNumber, usize),
-    // 108
-    Malformed,
+pub struct BoardRecord {
+    pub platform: Platform,
+    pub primary: CpuNumber,
+    // the place of the next record; the topology stands before it
+    pub next: usize,
 }

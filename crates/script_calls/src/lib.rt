@@ -6,11 +6,11 @@ ghost use Rattle.script_calls.specs.Script.{script_of};
 ghost use Rattle.model.specs.Numbers.{number_of};
 ghost use Rattle.script.specs.Run.{out_after};
 
+use model::code::number;
 use script_run::{run, start};
 
 // Starts fresh on a board and runs events; gives back the closing number, and in `taken` how many events were taken. A board that is refused takes none.
-#[unsafe(no_mangle)]
-pub extern "C" fn psci_script(
+pub fn psci_script(
     board: &[u8],
     events: &[u8],
     out: &mut [u8],
@@ -26,12 +26,12 @@ pub extern "C" fn psci_script(
     let begun = start(board);
     let code = begun.code;
     let state = begun.state;
-    if code.is_accepted() {
+    if code.is_ok() {
         let done = run(events, out, state, budget);
         let closing = done.closing;
         *taken = [done.events];
-        return closing.number();
+        return number(closing);
     }
     *taken = [0];
-    code.number()
+    number(code)
 }

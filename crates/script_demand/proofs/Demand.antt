@@ -4,6 +4,7 @@ use mathlib.Core.List.{List, [], ◌∷◌, ◌++◌}
 use mathlib.Core.Path.{◌≡◌, sym, ap, ◌∙◌}
 use native.Mathlib.Omega.{arith}
 use lib.ListN.{length, take, drop}
+use Rattle.std.specs.Prelude.{Ok}
 use Rattle.demand3.proofs.Board.{SoundOf}
 use Rattle.demand3.proofs.Demand3.{reached, reached_of, demand}
 use Rattle.demand3.specs.Demand.{Demand3}
@@ -12,7 +13,7 @@ use Rattle.kept.specs.Lengths.{SoundRecord}
 use Rattle.model.specs.Calls.{call_of}
 use Rattle.model.specs.State.{max_at}
 use Rattle.model.specs.declared.call.Call.{Call}
-use Rattle.model.specs.declared.code.Code.TheVariants as code
+use Rattle.model.specs.declared.code.Refusal.TheVariants as code
 use Rattle.model.specs.declared.state.State.{State}
 use Rattle.model.specs.declared.states.Platform.{Platform}
 use Rattle.script.specs.AnswerRecord.{answer_size, named_of, shown_of, answer_bytes}
@@ -103,7 +104,7 @@ module _ (l : List ℕ) (b : BoardIn l) where
         (shown_stands p b.primary t (history_of start ks) (state_after start ks) (of_after ks) (demand_after ks) (named_of k))
 
 -- from the bytes alone: where a script starts, the state after each event that its run takes is as demand 3 asks
-pub bytes_demand_3 : (l : List ℕ) (starts : (start_of l).code ≡ code.Accepted) (budget room n : ℕ) → n ≤ budget →
+pub bytes_demand_3 : (l : List ℕ) (starts : (start_of l).code ≡ Ok tt) (budget room n : ℕ) → n ≤ budget →
     let b = board_in_lem l starts in
     Demand3 b.platform b.primary (topology_in b.next l)
     (history_of (start_of l).state (take n (script_calls budget room l))) (script_run n room l).answer.state

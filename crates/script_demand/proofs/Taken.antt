@@ -6,14 +6,15 @@ use mathlib.Core.Path.{◌≡◌, refl, sym, ap, ◌∙◌}
 use native.Mathlib.Omega.{arith}
 use lib.Dec.{ltb}
 use lib.ListN.{length, drop}
+use Rattle.std.specs.Prelude.{Ok, Err}
 use Rattle.basics.proofs.Tests.{by}
 use Rattle.history.specs.History.{state_after}
 use Rattle.call_laws.proofs.Board.{call_same_board}
 use Rattle.model.specs.State.{max_at}
 use Rattle.model.specs.declared.board.Board.{Board}
 use Rattle.model.specs.declared.call.Call.{Call}
-use Rattle.model.specs.declared.code.Code.{Code}
-use Rattle.model.specs.declared.code.Code.TheVariants as code
+use Rattle.model.specs.Numbers.{Code}
+use Rattle.model.specs.declared.code.Refusal.TheVariants as code
 use Rattle.model.specs.declared.state.State.{State}
 use Rattle.script.specs.AnswerRecord.{answer_size}
 use Rattle.script.specs.Record.{emptyb, read_of}
@@ -45,9 +46,9 @@ made_by_next taken s c ks r m = record {
 made_by_read : (taken : ℕ) (s : State) (x : Read) (stop : Code → Run) (f : Call → ℕ → Run) (g : Call → ℕ → List Call) →
     ((k : Code) → MadeBy taken s [] (stop k)) → ((c : Call) (next : ℕ) → MadeBy taken s (g c next) (f c next)) →
     MadeBy taken s (taken_if x g) (event_or x stop f)
-made_by_read taken s read.End stop f g p q = p code.Accepted
+made_by_read taken s read.End stop f g p q = p (Ok tt)
 made_by_read taken s (read.Event c next) stop f g p q = q c next
-made_by_read taken s read.Malformed stop f g p q = p code.Malformed
+made_by_read taken s read.Malformed stop f g p q = p (Err code.Malformed)
 
 -- the same, where what is read is said otherwise
 made_by_same : (taken : ℕ) (s : State) (x y : Read) (stop : Code → Run) (f : Call → ℕ → Run) (g : Call → ℕ → List Call) → x ≡ y →
@@ -63,11 +64,11 @@ same_max s c = ap (λ (b : Board). b.platform.max.0) (call_same_board s c).board
 made : (budget room : ℕ) (l : List ℕ) (taken : ℕ) (s : State) (max : ℕ) → max_at s ≡ max →
     MadeBy taken s (taken_of budget room max l) (run_of budget room l taken s)
 unfolding run_of taken_of
-made zero room l taken s max m = made_by_none (cond (emptyb l) code.Accepted code.BudgetSpent) taken s
+made zero room l taken s max m = made_by_none (cond (emptyb l) (Ok tt) (Err code.BudgetSpent)) taken s
 made (suc budget) room l taken s max m =
     made_by_same taken s (read_of max l) (read_of (max_at s) l) _ _ _ (ap (λ (n : ℕ). read_of n l) (sym m)) (λ k. made_by_none k taken s)
     (λ c next. by (ltb room answer_size)
-    (λ e. rw e (made_by_none code.NoRoom taken s))
+    (λ e. rw e (made_by_none (Err code.NoRoom) taken s))
     (λ e. rw e
     (made_by_next taken s c (taken_of budget (room - answer_size) max (drop next l)) _
     (made budget (room - answer_size) (drop next l) (taken + 1) (event_answer_of s c).state max (same_max s c ∙ m)))))

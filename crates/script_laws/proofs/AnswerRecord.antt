@@ -5,9 +5,9 @@ use mathlib.Core.Path.{◌≡◌, refl}
 use native.Mathlib.Omega.{arith}
 use borrow.Author.Tests.{lt-ltb, le-ltb}
 use lib.ListN.{length, drop}
-use Rattle.model.specs.Numbers.{number_of, signed_of}
-use Rattle.model.specs.declared.code.Code.{Code}
-use Rattle.model.specs.declared.code.Code.TheVariants as code
+use Rattle.std.specs.Prelude.{Ok, Err}
+use Rattle.model.specs.Numbers.{Code, number_of, signed_of}
+use Rattle.model.specs.declared.code.Refusal.TheVariants as code
 use Rattle.model.specs.declared.states.CompositeState.{CompositeState}
 use Rattle.script.specs.AnswerRecord.{answer_size, answer_bytes, onto}
 use Rattle.script.specs.Bytes.{byte_at, number_at, bytes_of, signed_byte_of}
@@ -29,28 +29,28 @@ onto_room l m h = simp (le-ltb _ _ h)
 
 -- the byte of a code, read with its sign, is the code's number: a negative one stays negative
 pub code_signed : (k : Code) → signed_of (signed_byte_of (number_of k)) ≡ number_of k
-code_signed code.Accepted = refl
-code_signed code.NotSupported = refl
-code_signed code.InvalidParameters = refl
-code_signed code.Denied = refl
-code_signed code.AlreadyOn = refl
-code_signed code.OnPending = refl
-code_signed code.InternalFailure = refl
-code_signed code.NotPresent = refl
-code_signed code.Disabled = refl
-code_signed code.InvalidAddress = refl
-code_signed code.BadBoard = refl
-code_signed code.NotSound = refl
-code_signed code.NoCaller = refl
-code_signed code.NotRunning = refl
-code_signed code.NotDue = refl
-code_signed code.Unusable = refl
-code_signed code.OsInitiated = refl
-code_signed code.Malformed = refl
-code_signed code.Outside = refl
-code_signed code.NoRoom = refl
-code_signed code.SuspendBesideRequest = refl
-code_signed code.BudgetSpent = refl
+code_signed (Ok _) = refl
+code_signed (Err code.NotSupported) = refl
+code_signed (Err code.InvalidParameters) = refl
+code_signed (Err code.Denied) = refl
+code_signed (Err code.AlreadyOn) = refl
+code_signed (Err code.OnPending) = refl
+code_signed (Err code.InternalFailure) = refl
+code_signed (Err code.NotPresent) = refl
+code_signed (Err code.Disabled) = refl
+code_signed (Err code.InvalidAddress) = refl
+code_signed (Err code.BadBoard) = refl
+code_signed (Err code.NotSound) = refl
+code_signed (Err code.NoCaller) = refl
+code_signed (Err code.NotRunning) = refl
+code_signed (Err code.NotDue) = refl
+code_signed (Err code.Unusable) = refl
+code_signed (Err code.OsInitiated) = refl
+code_signed (Err code.Malformed) = refl
+code_signed (Err code.Outside) = refl
+code_signed (Err code.NoRoom) = refl
+code_signed (Err code.SuspendBesideRequest) = refl
+code_signed (Err code.BudgetSpent) = refl
 
 module _ (n : ℕ) (k : Code) (states : CompositeState) where
   -- the event's number is read back

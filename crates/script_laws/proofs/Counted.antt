@@ -8,11 +8,12 @@ use borrow.Author.Tests.{ltb-false}
 use lib.Dec.{ltb}
 use lib.ListN.{length, take, drop, length-append}
 use lib.Seq.{take_at}
+use Rattle.std.specs.Prelude.{Ok, Err}
 use Rattle.basics.proofs.Tests.{cond_rule}
 use Rattle.model.specs.State.{max_at}
 use Rattle.model.specs.declared.call.Call.{Call}
-use Rattle.model.specs.declared.code.Code.{Code}
-use Rattle.model.specs.declared.code.Code.TheVariants as code
+use Rattle.model.specs.Numbers.{Code}
+use Rattle.model.specs.declared.code.Refusal.TheVariants as code
 use Rattle.model.specs.declared.state.State.{State}
 use Rattle.script.specs.declared.record.Read.{Read}
 use Rattle.script.specs.declared.record.Read.TheVariants as read
@@ -56,18 +57,18 @@ counted_event taken budget room m r n h c =
 
 event_or_lem : (P : Run → Type 0) (x : Read) {stop : Code → Run} {f : Call → ℕ → Run} → ((k : Code) → P (stop k)) →
     ((c : Call) (next : ℕ) → P (f c next)) → P (event_or x stop f)
-event_or_lem P read.End p q = p code.Accepted
+event_or_lem P read.End p q = p (Ok tt)
 event_or_lem P (read.Event c next) p q = q c next
-event_or_lem P read.Malformed p q = p code.Malformed
+event_or_lem P read.Malformed p q = p (Err code.Malformed)
 
 pub run_counted : (budget room : ℕ) (l : List ℕ) (taken : ℕ) (s : State) →
     Counted taken budget room (run_of budget room l taken s)
 unfolding run_of
-run_counted zero room l taken s = counted_stop taken 0 room (cond (emptyb l) code.Accepted code.BudgetSpent) s
+run_counted zero room l taken s = counted_stop taken 0 room (cond (emptyb l) (Ok tt) (Err code.BudgetSpent)) s
 run_counted (suc budget) room l taken s =
     event_or_lem (Counted taken (suc budget) room) (read_of (max_at s) l) (λ k. counted_stop taken (suc budget) room k s)
     (λ c next. cond_rule (Counted taken (suc budget) room) (ltb room answer_size)
-    (λ _. counted_stop taken (suc budget) room code.NoRoom s)
+    (λ _. counted_stop taken (suc budget) room (Err code.NoRoom) s)
     (λ h. counted_event taken budget room (record_of_event (taken + 1) (event_answer_of s c)) _
     (answer_length (taken + 1) (event_answer_of s c).code (event_answer_of s c).shown) (ltb-false room answer_size h)
     (run_counted budget (room - answer_size) (drop next l) (taken + 1) (event_answer_of s c).state)))

@@ -8,7 +8,7 @@ use lib.ListN.{length, take, drop, length-append, length-take, length-drop, take
 use lib.Seq.{take_at, drop_at, drop-drop, length-take-le}
 use Rattle.model.specs.State.{max_at}
 use Rattle.model.specs.declared.call.Call.{Call}
-use Rattle.model.specs.declared.code.Code.{Code}
+use Rattle.model.specs.Numbers.{Code}
 use Rattle.model.specs.declared.state.State.{State}
 use Rattle.script.specs.declared.record.Read.TheVariants as read
 use Rattle.script.specs.declared.run.EventAnswer.{EventAnswer}

@@ -17,8 +17,8 @@ use Rattle.model.specs.declared.states.Platform.{Platform}
 use Rattle.script.specs.contracts.record.Read as read-type
 use Rattle.script.specs.declared.record.Read.{Read}
 use Rattle.script.specs.declared.record.Read.TheVariants as read
-use Rattle.script.specs.declared.record.ReadBoard.{ReadBoard}
-use Rattle.script.specs.declared.record.ReadBoard.TheVariants as board
+use Rattle.std.specs.Prelude.{Option, None, Some}
+use Rattle.script.specs.declared.record.BoardRecord.{BoardRecord}
 use Rattle.script.specs.Bytes.{byte_at}
 use Rattle.script.specs.Record.{board_recordb, boot_in, cutb, emptyb, event_if, finish_in, flagb, isb, kind_in, off_in, on_in}
 use Rattle.script.specs.Record.{read_board_of, read_of, record_of, set_mode_in, size_in, states_in, suspend_in, system_suspend_in}
@@ -99,9 +99,9 @@ read_left max at l e = sym (e ∙ ap (read_of max) (all_left at l))
 
 module _ (l : List ℕ) where
   -- a board's record holds what stands before the topology, and is not cut
-  abbrev BoardWithin : ReadBoard → Type 0
-  BoardWithin (board.Board p primary next) = (topology_place ≤ next) × (next ≤ length l)
-  BoardWithin board.Malformed = Unit
+  abbrev BoardWithin : Option BoardRecord → Type 0
+  BoardWithin (Some b) = (topology_place ≤ b.next) × (b.next ≤ length l)
+  BoardWithin None = Unit
 
   read_board_within : BoardWithin (read_board_of l)
   unfolding read_board_of
@@ -115,6 +115,5 @@ module _ (l : List ℕ) where
       (λ _. tt)
 
 -- the record after the board starts at the topology's place or after it, within the input or at its end
-pub board_within : (l : List ℕ) (p : Platform) (primary : CpuNumber) (next : ℕ) →
-    read_board_of l ≡ board.Board p primary next → (topology_place ≤ next) × (next ≤ length l)
-board_within l p primary next e = subst (BoardWithin l) e (read_board_within l)
+pub board_within : (l : List ℕ) (b : BoardRecord) → read_board_of l ≡ Some b → (topology_place ≤ b.next) × (b.next ≤ length l)
+board_within l b e = subst (BoardWithin l) e (read_board_within l)

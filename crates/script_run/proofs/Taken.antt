@@ -5,6 +5,7 @@ use mathlib.Core.List.{List}
 use mathlib.Core.Path.{◌≡◌, sym, ap, ◌∙◌}
 use lib.Dec.{ltb}
 use lib.ListN.{get_or}
+use Rattle.std.specs.Prelude.{Err}
 use Rattle.cpu_table.proofs.Records.{cpu_in_lem, stored_in_lem}
 use Rattle.cpu_table.proofs.Walks.{all_on_in_lem, others_off_in_lem}
 use Rattle.cpu_table.specs.CpuTable.{Lengths, cpu_in, cpus_in, stored_in}
@@ -17,8 +18,8 @@ use Rattle.model.specs.declared.answer.CallAnswer.{CallAnswer}
 use Rattle.model.specs.declared.board.Board.{Board}
 use Rattle.model.specs.declared.board.Tree.{Tree}
 use Rattle.model.specs.declared.call.Call.{Call}
-use Rattle.model.specs.declared.code.Code.{Code}
-use Rattle.model.specs.declared.code.Code.TheVariants as code
+use Rattle.model.specs.Numbers.{Code}
+use Rattle.model.specs.declared.code.Refusal.TheVariants as code
 use Rattle.model.specs.declared.cpu.CpuPowerNode.{CpuPowerNode}
 use Rattle.model.specs.declared.sorts.CpuNumber.{CpuNumber}
 use Rattle.model.specs.declared.state.Domains.{Domains}
@@ -91,6 +92,6 @@ module _ (board : Board) (tree : Tree) (cpus : CpuRows) (l : Lengths cpus) (d : 
 
   -- 102
   pub event_unsound : {sound : Bool} → sound ≡ false → {shown : CompositeState} → shown ≡ shown_of s (named_of k) →
-      event_answer code.NotSound shown s ≡ event_answer_as sound s k
+      event_answer (Err code.NotSound) shown s ≡ event_answer_as sound s k
   unfolding event_answer_as
   event_unsound hs hw = rw (hs, hw)

@@ -5,7 +5,7 @@ use Rattle.cpu_table.specs.declared.CpuRows.{CpuRows}
 use Rattle.kept.specs.Lengths.{Lengths}
 use Rattle.model.specs.declared.board.Board.{Board}
 use Rattle.model.specs.declared.board.Tree.{Tree}
-use Rattle.model.specs.declared.code.Code.{Code}
+use Rattle.model.specs.Numbers.{Code}
 use Rattle.model.specs.declared.state.Domains.{Domains}
 use Rattle.model.specs.declared.state.State.{State}
 use Rattle.model.specs.declared.state.SuspendMode.{SuspendMode}

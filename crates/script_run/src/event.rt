@@ -1,30 +1,31 @@
 // An event on a state that lies in rows: its call, and the states that its answer record shows. The state is not handed over.
 ghost use Rattle.std.specs.Prelude.{cond, ◌≡◌, ltb};
-ghost use Rattle.cpu_table.specs.CpuTable.{cpu_table};
+ghost use Rattle.cpu_table.specs.CpuTable.{SameCpus, lent_cpus};
 ghost use Rattle.model.specs.Path.{local_states_of};
-ghost use Rattle.paths.specs.Rows.{domain_rows};
+ghost use Rattle.paths.specs.Rows.{SameRows, lent_domains};
 ghost use Rattle.script.specs.AnswerRecord.{no_cpu_states};
 ghost use Rattle.script.specs.Run.{event_answer_as};
 ghost use Rattle.script_run.specs.Rows.{event_answer, state_in};
 
-use cpu_table::record::{cpu_in, store_cpu};
+use cpu_table::CpuTable;
 use events::{caller, named_cpu};
 use in_place::any::call;
 use model::board::{Board, Tree};
 use model::call::Call;
-use model::code::Code;
+use model::code::Refusal;
 use model::cpu::CpuPowerNode;
-use model::limits::{CPUS, DOMAINS, REQUESTS};
+use model::limits::DOMAINS;
 use model::sorts::{CpuNumber, PowerLevel};
 use model::state::SuspendMode;
 use model::states::CompositeState;
+use paths::DomainRows;
 use paths::ancestors::local_states_from_nodes;
 use script::limits::NO_CPU_STATE;
 
-// What an event gives, beside the rows.
+// What an event gives, beside the rows. No Result, as `EventAnswer` is none, and not that: the definition `event_answer_of` gives it a State.
 #[derive(Drop)]
 pub(super) struct EventStep {
-    pub code: Code,
+    pub code: Result<(), Refusal>,
     pub shown: CompositeState,
     pub mode: SuspendMode,
 }
@@ -57,56 +58,40 @@ pub(super) fn event(
     board: Board,
     tree: Tree,
     mode: SuspendMode,
-    states: &mut [u8; DOMAINS],
-    requests: &mut [u8; REQUESTS],
-    suspends: &mut [u8; REQUESTS],
-    copies: &mut [u8; DOMAINS],
-    firsts: &[u8; CPUS],
-    affinities: &mut [u8; CPUS],
-    locals: &mut [u8; CPUS],
-    helds: &mut [u8; CPUS],
-    addresses: &mut [u64; CPUS],
-    contexts: &mut [u64; CPUS],
+    rows: &mut DomainRows,
+    cpus: &mut CpuTable,
     event: Call,
 ) -> EventStep
-    ensures { event_answer result.code result.shown (state_in board tree
-        (cpu_table firsts.now affinities.new locals.new helds.new addresses.new contexts.new)
-        (domain_rows states.new requests.new suspends.new copies.new) result.mode)
-        ≡ event_answer_as sound (state_in board tree
-        (cpu_table firsts.now affinities.old locals.old helds.old addresses.old contexts.old)
-        (domain_rows states.old requests.old suspends.old copies.old) mode) event }
+    ensures same_rows { SameRows rows.old rows.new }
+    ensures same_cpus { SameCpus cpus.old cpus.new }
+    ensures value { event_answer result.code result.shown
+        (state_in board tree (lent_cpus cpus.new) (lent_domains rows.new) result.mode)
+        ≡ event_answer_as sound (state_in board tree (lent_cpus cpus.old) (lent_domains rows.old) mode) event }
 {
     let p = board.platform;
     let max = p.max;
     let count = tree.cpu_count;
     let cpu = named_cpu(event);
-    let node = cpu_in(firsts, affinities, locals, helds, addresses, contexts, cpu);
+    let node = cpus.cpu_in(cpu);
     if sound {
-        let by = cpu_in(
-            firsts,
-            affinities,
-            locals,
-            helds,
-            addresses,
-            contexts,
-            caller(event),
-        );
-        let done = call(
-            tree, states, requests, suspends, copies, affinities, p, mode, by, node, event,
-        );
+        let by = cpus.cpu_in(caller(event));
+        let affinities = &*cpus.affinities;
+        let done = call(tree, rows, affinities, p, mode, by, node, event);
         let code = done.code;
         let next = done.node;
         let after = done.mode;
-        store_cpu(affinities, locals, helds, addresses, contexts, cpu, next);
-        let left = cpu_in(firsts, affinities, locals, helds, addresses, contexts, cpu);
+        cpus.store_cpu(cpu, next);
+        let left = cpus.cpu_in(cpu);
+        let states = &*rows.states;
         return EventStep {
             code,
             shown: shown_states(&tree.parents, states, count, max, cpu, left),
             mode: after,
         };
     }
+    let states = &*rows.states;
     EventStep {
-        code: Code::NotSound,
+        code: Err(Refusal::NotSound),
         shown: shown_states(&tree.parents, states, count, max, cpu, node),
         mode,
     }

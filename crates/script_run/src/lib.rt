@@ -4,27 +4,29 @@
 mod event;
 
 ghost use Rattle.std.specs.Prelude.{◌≡◌, length};
-ghost use Rattle.cpu_table.specs.CpuTable.{cpu_table};
+ghost use Rattle.cpu_table.specs.CpuTable.{SameCpus, lent_cpus};
 ghost use Rattle.kept.specs.Lengths.{Lengths};
 ghost use Rattle.model.specs.Limits.{cpu_limit, domain_limit, request_slots};
 ghost use Rattle.model.specs.SoundTest.{soundb};
-ghost use Rattle.paths.specs.Rows.{domain_rows};
+ghost use Rattle.paths.specs.Rows.{SameRows, lent_domains};
 ghost use Rattle.script.specs.Run.{out_after, run_of, start_of};
 ghost use Rattle.script_run.specs.Rows.{Carried, run_answer, state_in};
 
 use crate::event::event;
 use answers::write_answer;
-use cpu_table::tables::{rows_of, table_of};
+use cpu_table::CpuTable;
+use cpu_table::tables::rows_of;
 use fresh::{fresh, no_state};
 use model::board::{Board, Tree};
-use model::code::Code;
+use model::code::Refusal;
 use model::cpu::CpuPowerNode;
 use model::limits::{CPUS, DOMAINS, REQUESTS};
-use model::state::{Domains, State, SuspendMode};
+use model::state::{State, SuspendMode};
+use paths::DomainRows;
 use reader::board::read_board;
 use reader::read_record;
 use script::limits::{ANSWER, TOPOLOGY};
-use script::record::{Read, ReadBoard};
+use script::record::{BoardRecord, Read};
 use script::run::{RunAnswer, Start};
 use soundness::sound;
 
@@ -32,9 +34,16 @@ use soundness::sound;
 pub fn start(input: &[u8]) -> Start
     ensures { result ≡ start_of input.now }
 {
-    let ReadBoard::Board(platform, primary, next) = read_board(input) else {
+    let Some(
+        BoardRecord {
+            platform,
+            primary,
+            next,
+        },
+    ) = read_board(input)
+    else {
         return Start {
-            code: Code::Malformed,
+            code: Err(Refusal::Malformed),
             next: 0,
             state: no_state(),
         };
@@ -71,11 +80,11 @@ fn sound_at_start(state: State) -> bool
     sound(state)
 }
 
-// What a run of rows gives, beside them.
+// What a run of rows gives, beside them. No Result, as `RunAnswer` is none, and not that: the definition `run_of` gives it a State.
 #[derive(Drop)]
 struct Ran {
     events: u32,
-    closing: Code,
+    closing: Result<(), Refusal>,
     written: usize,
     mode: SuspendMode,
 }
@@ -89,28 +98,18 @@ fn run_rows(
     board: Board,
     tree: Tree,
     start: SuspendMode,
-    states: &mut [u8; DOMAINS],
-    requests: &mut [u8; REQUESTS],
-    suspends: &mut [u8; REQUESTS],
-    copies: &mut [u8; DOMAINS],
-    firsts: &[u8; CPUS],
-    affinities: &mut [u8; CPUS],
-    locals: &mut [u8; CPUS],
-    helds: &mut [u8; CPUS],
-    addresses: &mut [u64; CPUS],
-    contexts: &mut [u64; CPUS],
+    rows: &mut DomainRows,
+    cpus: &mut CpuTable,
 ) -> Ran
-    requires { Carried known (state_in board tree (cpu_table firsts.now affinities.old locals.old helds.old addresses.old contexts.old)
-        (domain_rows states.old requests.old suspends.old copies.old) start) }
-    ensures { (run_answer result.events result.closing result.written (state_in board tree
-        (cpu_table firsts.now affinities.new locals.new helds.new addresses.new contexts.new)
-        (domain_rows states.new requests.new suspends.new copies.new) result.mode)
-        ≡ (run_of budget (length out.old) input.now 0 (state_in board tree
-        (cpu_table firsts.now affinities.old locals.old helds.old addresses.old contexts.old)
-        (domain_rows states.old requests.old suspends.old copies.old) start)).answer)
-        × (out.new ≡ out_after out.old (run_of budget (length out.old) input.now 0 (state_in board tree
-        (cpu_table firsts.now affinities.old locals.old helds.old addresses.old contexts.old)
-        (domain_rows states.old requests.old suspends.old copies.old) start))) }
+    requires { Carried known (state_in board tree (lent_cpus cpus.old) (lent_domains rows.old) start) }
+    ensures same_rows { SameRows rows.old rows.new }
+    ensures same_cpus { SameCpus cpus.old cpus.new }
+    ensures value { (run_answer result.events result.closing result.written
+        (state_in board tree (lent_cpus cpus.new) (lent_domains rows.new) result.mode)
+        ≡ (run_of budget (length out.old) input.now 0
+        (state_in board tree (lent_cpus cpus.old) (lent_domains rows.old) start)).answer)
+        × (out.new ≡ out_after out.old (run_of budget (length out.old) input.now 0
+        (state_in board tree (lent_cpus cpus.old) (lent_domains rows.old) start))) }
 {
     let max = board.platform.max;
     let mut at = 0usize;
@@ -121,7 +120,7 @@ fn run_rows(
         if budget <= events {
             return Ran {
                 events,
-                closing: Code::BudgetSpent,
+                closing: Err(Refusal::BudgetSpent),
                 written,
                 mode,
             };
@@ -129,7 +128,7 @@ fn run_rows(
         let Read::Event(call, size) = read_record(&input[at..], max) else {
             return Ran {
                 events,
-                closing: Code::Malformed,
+                closing: Err(Refusal::Malformed),
                 written,
                 mode,
             };
@@ -138,28 +137,26 @@ fn run_rows(
         if out.len() - written < ANSWER {
             return Ran {
                 events,
-                closing: Code::NoRoom,
+                closing: Err(Refusal::NoRoom),
                 written,
                 mode,
             };
         }
         let number = events + 1;
         let end = written + ANSWER;
-        let done = event(
-            known, board, tree, mode, states, requests, suspends, copies, firsts, affinities,
-            locals, helds, addresses, contexts, call,
-        );
+        let done = event(known, board, tree, mode, rows, cpus, call);
         let code = done.code;
         let shown = done.shown;
         mode = done.mode;
-        write_answer(&mut out[written..], number, code, shown);
+        // there is room, as is tested above
+        let _ = write_answer(&mut out[written..], number, code, shown);
         events = number;
         written = end;
         at = next;
     }
     Ran {
         events,
-        closing: Code::Accepted,
+        closing: Ok(()),
         written,
         mode,
     }
@@ -175,37 +172,24 @@ pub fn run(input: &[u8], out: &mut [u8], start: State, budget: u32) -> RunAnswer
     let board = start.board;
     let tree = start.tree;
     let cpus = start.cpus;
-    let domains = start.domains;
-    let first_mode = start.mode;
-    let rows = rows_of(cpus);
-    let firsts = rows.firsts;
-    let mut affinities = rows.affinities;
-    let mut locals = rows.locals;
-    let mut helds = rows.helds;
-    let mut addresses = rows.addresses;
-    let mut contexts = rows.contexts;
-    let mut states = domains.states;
-    let mut requests = domains.requests;
-    let mut suspends = domains.suspends;
-    let mut copies = domains.copies;
+    let mut domains = start.domains;
+    let mut table = rows_of(cpus);
+    let mut rows = DomainRows {
+        states: &mut domains.states,
+        requests: &mut domains.requests,
+        suspends: &mut domains.suspends,
+        copies: &mut domains.copies,
+    };
+    let mut lent = CpuTable {
+        firsts: &table.firsts,
+        affinities: &mut table.affinities,
+        locals: &mut table.locals,
+        helds: &mut table.helds,
+        addresses: &mut table.addresses,
+        contexts: &mut table.contexts,
+    };
     let ran = run_rows(
-        input,
-        out,
-        budget,
-        known,
-        board,
-        tree,
-        first_mode,
-        &mut states,
-        &mut requests,
-        &mut suspends,
-        &mut copies,
-        &firsts,
-        &mut affinities,
-        &mut locals,
-        &mut helds,
-        &mut addresses,
-        &mut contexts,
+        input, out, budget, known, board, tree, start.mode, &mut rows, &mut lent,
     );
     let events = ran.events;
     let closing = ran.closing;
@@ -214,13 +198,8 @@ pub fn run(input: &[u8], out: &mut [u8], start: State, budget: u32) -> RunAnswer
     let state = State {
         board,
         tree,
-        cpus: table_of(&firsts, &affinities, &locals, &helds, &addresses, &contexts),
-        domains: Domains {
-            states,
-            requests,
-            suspends,
-            copies,
-        },
+        cpus: table.view().table_of(),
+        domains,
         mode,
     };
     RunAnswer {

@@ -1,24 +1,26 @@
 // The calls of a CPU that goes down: off, suspend and system suspend.
 ghost use Rattle.std.specs.Prelude.{◌≡◌};
-ghost use Rattle.model.specs.Calls.{cpu_off_of, cpu_suspend_start_of, system_suspend_of};
+ghost use Rattle.model.specs.Answer.{decided};
+ghost use Rattle.model.specs.Calls.{cpu_off_of, cpu_suspend_start_of, entered, system_suspend_of, unless_pending};
 
+use crate::acted::acted;
 use bodies::{enter, turn_off};
 use checks::caller::for_caller;
 use checks::suspend::suspend_code;
 use checks::system_suspend::system_suspend_code;
-use cpu_rows::{cpu_in, with_cpu_record};
+use cpu_rows::cpu_in;
 use cpu_walk::others_off_in;
 use model::answer::{CallAnswer, Notice};
-use model::code::Code;
+use model::code::{Refusal, of_answer};
 use model::cpu::EntryPoint;
 use model::sorts::CpuNumber;
 use model::state::State;
 use model::states::CompositeState;
-use outgoing::{not_entered_out, nothing_out};
+use outgoing::{not_entered_out, refused};
 
 // CPU_OFF: the caller turns itself off. The platform is asked early whether it may.
 #[tactic(auto, unfolding(model::specs::Answer::decided, model::specs::Calls::cpu_off_of))]
-pub fn cpu_off(mut state: State, caller: CpuNumber, early_answer: u8) -> CallAnswer
+pub fn cpu_off(state: State, caller: CpuNumber, early_answer: u8) -> CallAnswer
     ensures { result ≡ cpu_off_of state caller early_answer }
 {
     let cpus = state.cpus;
@@ -26,36 +28,49 @@ pub fn cpu_off(mut state: State, caller: CpuNumber, early_answer: u8) -> CallAns
     let rows = state.domains;
     let p = state.board.platform;
     let node = cpu_in(cpus, caller);
-    let code = for_caller(
-        caller.0 < tree.cpu_count,
-        node,
-        Code::of_answer(early_answer),
-    );
-    if code.is_accepted() {
-        let done = turn_off(tree, rows, p, caller, node);
-        let node = done.node;
-        let domains = done.domains;
-        let out = done.out;
-        let next = with_cpu_record(cpus, caller, node);
-        state.cpus = next;
-        state.domains = domains;
+    let code = for_caller(caller.0 < tree.cpu_count, node, of_answer(early_answer));
+    if code.is_err() {
+        return refused(state, code);
+    }
+    acted(state, caller, turn_off(tree, rows, p, caller, node))
+}
+
+// A suspend is entered where the code grants it, but not with an interrupt pending. The notice is what the SPM is told.
+#[tactic(auto, unfolding(model::specs::Answer::decided))]
+fn suspend(
+    state: State,
+    caller: CpuNumber,
+    code: Result<(), Refusal>,
+    pending: bool,
+    entry: EntryPoint,
+    asked: CompositeState,
+    told: Notice,
+) -> CallAnswer
+    ensures { result ≡ decided state code (unless_pending state pending (entered state caller.0 asked entry told)) }
+{
+    if code.is_err() {
+        return refused(state, code);
+    }
+    if pending {
         return CallAnswer {
-            code: Code::Accepted,
-            out,
+            code: Ok(()),
+            out: not_entered_out(),
             state,
         };
     }
-    CallAnswer {
-        code,
-        out: nothing_out(),
-        state,
-    }
+    let cpus = state.cpus;
+    let tree = state.tree;
+    let rows = state.domains;
+    let p = state.board.platform;
+    let node = cpu_in(cpus, caller);
+    let done = enter(tree, rows, p, caller, node, asked, entry, told);
+    acted(state, caller, done)
 }
 
 // CPU_SUSPEND up to its wait.
-#[tactic(auto, unfolding(model::specs::Answer::decided, model::specs::Calls::cpu_suspend_start_of))]
+#[tactic(auto, unfolding(model::specs::Calls::cpu_suspend_start_of))]
 pub fn cpu_suspend_start(
-    mut state: State,
+    state: State,
     caller: CpuNumber,
     pending: bool,
     entry: EntryPoint,
@@ -65,45 +80,26 @@ pub fn cpu_suspend_start(
 {
     let cpus = state.cpus;
     let tree = state.tree;
-    let rows = state.domains;
     let p = state.board.platform;
     let node = cpu_in(cpus, caller);
     let mode = state.mode;
     let own = suspend_code(p, mode, asked);
     let code = for_caller(caller.0 < tree.cpu_count, node, own);
-    if code.is_accepted() {} else {
-        return CallAnswer {
-            code,
-            out: nothing_out(),
-            state,
-        };
-    }
-    if pending {
-        return CallAnswer {
-            code: Code::Accepted,
-            out: not_entered_out(),
-            state,
-        };
-    }
-    let told = Notice::SpmToldSuspend(entry);
-    let done = enter(tree, rows, p, caller, node, asked, entry, told);
-    let node = done.node;
-    let domains = done.domains;
-    let out = done.out;
-    let next = with_cpu_record(cpus, caller, node);
-    state.cpus = next;
-    state.domains = domains;
-    CallAnswer {
-        code: Code::Accepted,
-        out,
+    suspend(
         state,
-    }
+        caller,
+        code,
+        pending,
+        entry,
+        asked,
+        Notice::SpmToldSuspend(entry),
+    )
 }
 
 // SYSTEM_SUSPEND up to its wait: the last CPU that is on suspends to the states that the platform has for this.
-#[tactic(auto, unfolding(model::specs::Answer::decided, model::specs::Calls::system_suspend_of))]
+#[tactic(auto, unfolding(model::specs::Calls::system_suspend_of))]
 pub fn system_suspend(
-    mut state: State,
+    state: State,
     caller: CpuNumber,
     feature: bool,
     pending: bool,
@@ -115,38 +111,19 @@ pub fn system_suspend(
 {
     let cpus = state.cpus;
     let tree = state.tree;
-    let rows = state.domains;
     let p = state.board.platform;
     let node = cpu_in(cpus, caller);
     let last = others_off_in(cpus, tree.cpu_count, caller.0);
     let mode = state.mode;
     let own = system_suspend_code(p, mode, feature, last, address_good, asked);
     let code = for_caller(caller.0 < tree.cpu_count, node, own);
-    if code.is_accepted() {} else {
-        return CallAnswer {
-            code,
-            out: nothing_out(),
-            state,
-        };
-    }
-    if pending {
-        return CallAnswer {
-            code: Code::Accepted,
-            out: not_entered_out(),
-            state,
-        };
-    }
-    let told = Notice::SpmToldSystemSuspend(entry);
-    let done = enter(tree, rows, p, caller, node, asked, entry, told);
-    let node = done.node;
-    let domains = done.domains;
-    let out = done.out;
-    let next = with_cpu_record(cpus, caller, node);
-    state.cpus = next;
-    state.domains = domains;
-    CallAnswer {
-        code: Code::Accepted,
-        out,
+    suspend(
         state,
-    }
+        caller,
+        code,
+        pending,
+        entry,
+        asked,
+        Notice::SpmToldSystemSuspend(entry),
+    )
 }

@@ -9,11 +9,10 @@ use cpu_rows::{cpu_in, with_cpu_record};
 use cpu_steps::pended;
 use cpu_walk::{all_on_in, others_off_in};
 use model::answer::CallAnswer;
-use model::code::Code;
 use model::cpu::EntryPoint;
 use model::sorts::CpuNumber;
 use model::state::{State, SuspendMode};
-use outgoing::nothing_out;
+use outgoing::{nothing_out, refused};
 
 // CPU_ON: turns a CPU on. The platform says whether the address is good, and what comes of its own part.
 #[tactic(auto, unfolding(model::specs::Answer::decided, model::specs::Calls::cpu_on_of))]
@@ -33,21 +32,17 @@ pub fn cpu_on(
     let affinity = node.affinity_info;
     let own = on_code(answer, target.0 < count, address_good, affinity);
     let code = for_caller(caller.0 < count, cpu_in(cpus, caller), own);
-    let granted = code.is_accepted();
+    let granted = code.is_ok();
     if granted {
         let next = with_cpu_record(cpus, target, pended(node, entry));
         state.cpus = next;
         return CallAnswer {
-            code: Code::Accepted,
+            code: Ok(()),
             out: nothing_out(),
             state,
         };
     }
-    CallAnswer {
-        code,
-        out: nothing_out(),
-        state,
-    }
+    refused(state, code)
 }
 
 // PSCI_SET_SUSPEND_MODE: sets who coordinates the power states.
@@ -66,16 +61,12 @@ pub fn set_suspend_mode(
     let current = state.mode;
     let own = mode_code(feature, current, mode, last, all_on_in(cpus, count));
     let code = for_caller(caller.0 < count, cpu_in(cpus, caller), own);
-    if code.is_accepted() {
+    if code.is_ok() {
         return CallAnswer {
-            code: Code::Accepted,
+            code: Ok(()),
             out: nothing_out(),
             state: State { mode, ..state },
         };
     }
-    CallAnswer {
-        code,
-        out: nothing_out(),
-        state,
-    }
+    refused(state, code)
 }

@@ -2,19 +2,19 @@
 ghost use Rattle.std.specs.Prelude.{◌≡◌};
 ghost use Rattle.model.specs.Calls.{cpu_suspend_finish_of, handle_cpu_boot_of};
 
+use crate::acted::acted;
 use bodies::{boot, finish};
 use checks::caller::for_cpu;
 use checks::wake::{boot_code, finish_code};
-use cpu_rows::{cpu_in, with_cpu_record};
+use cpu_rows::cpu_in;
 use model::answer::CallAnswer;
-use model::code::Code;
 use model::sorts::CpuNumber;
 use model::state::State;
-use outgoing::nothing_out;
+use outgoing::refused;
 
-// The rest of a suspend after its wait.
+// The rest of a suspend after its wait. What it shares with the next, and with cpu_off, is reads of the state, `refused` and `acted`.
 #[tactic(auto, unfolding(model::specs::Answer::decided, model::specs::Calls::cpu_suspend_finish_of))]
-pub fn cpu_suspend_finish(mut state: State, cpu: CpuNumber) -> CallAnswer
+pub fn cpu_suspend_finish(state: State, cpu: CpuNumber) -> CallAnswer
     ensures { result ≡ cpu_suspend_finish_of state cpu }
 {
     let cpus = state.cpus;
@@ -23,30 +23,15 @@ pub fn cpu_suspend_finish(mut state: State, cpu: CpuNumber) -> CallAnswer
     let p = state.board.platform;
     let node = cpu_in(cpus, cpu);
     let code = for_cpu(cpu.0 < tree.cpu_count, finish_code(node));
-    if code.is_accepted() {
-        let done = finish(tree, rows, p, cpu, node);
-        let node = done.node;
-        let domains = done.domains;
-        let out = done.out;
-        let next = with_cpu_record(cpus, cpu, node);
-        state.cpus = next;
-        state.domains = domains;
-        return CallAnswer {
-            code: Code::Accepted,
-            out,
-            state,
-        };
+    if code.is_err() {
+        return refused(state, code);
     }
-    CallAnswer {
-        code,
-        out: nothing_out(),
-        state,
-    }
+    acted(state, cpu, finish(tree, rows, p, cpu, node))
 }
 
 // A CPU that is powered up: after CPU_ON, or from a suspend that lost its state.
 #[tactic(auto, unfolding(model::specs::Answer::decided, model::specs::Calls::handle_cpu_boot_of))]
-pub fn handle_cpu_boot(mut state: State, cpu: CpuNumber) -> CallAnswer
+pub fn handle_cpu_boot(state: State, cpu: CpuNumber) -> CallAnswer
     ensures { result ≡ handle_cpu_boot_of state cpu }
 {
     let cpus = state.cpus;
@@ -55,23 +40,8 @@ pub fn handle_cpu_boot(mut state: State, cpu: CpuNumber) -> CallAnswer
     let p = state.board.platform;
     let node = cpu_in(cpus, cpu);
     let code = for_cpu(cpu.0 < tree.cpu_count, boot_code(p, node));
-    if code.is_accepted() {
-        let done = boot(tree, rows, p, cpu, node);
-        let node = done.node;
-        let domains = done.domains;
-        let out = done.out;
-        let next = with_cpu_record(cpus, cpu, node);
-        state.cpus = next;
-        state.domains = domains;
-        return CallAnswer {
-            code: Code::Accepted,
-            out,
-            state,
-        };
+    if code.is_err() {
+        return refused(state, code);
     }
-    CallAnswer {
-        code,
-        out: nothing_out(),
-        state,
-    }
+    acted(state, cpu, boot(tree, rows, p, cpu, node))
 }

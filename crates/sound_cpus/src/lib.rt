@@ -7,7 +7,7 @@ ghost use Rattle.model.specs.Below.{every};
 ghost use Rattle.model.specs.Composite.{state_at};
 ghost use Rattle.model.specs.Limits.{cpu_limit};
 ghost use Rattle.model.specs.Node.{no_suspend_state};
-ghost use Rattle.model.specs.SoundTest.{asksb, cpu_slot_isb, cpu_slotb, cpu_unusedb, cpu_usedb, levels_areb, sameb, suspends_areb};
+ghost use Rattle.model.specs.SoundTest.{asksb, cpu_slot_isb, cpu_slotb, cpu_unusedb, cpu_usedb, levels_areb, suspends_areb};
 ghost use Rattle.model.specs.State.{asked_in};
 ghost use Rattle.model.specs.Table.{at_level};
 
@@ -24,17 +24,7 @@ use states::composite::{state_at, states_in_range};
 use states::platform::off;
 use states::request::is_valid_suspend_request;
 
-// Are two bools the same?
-fn same(a: bool, b: bool) -> bool
-    ensures { result ≡ sameb a b }
-{
-    if a {
-        return b;
-    }
-    !b
-}
-
-// Has a level this state, or 0 above MAX?
+// Has a level this state, or 0 above MAX? What it shares with other tests of a level is the `if`.
 fn level_is(p: Platform, c: CompositeState, level: PowerLevel, state: u8) -> bool
     ensures { result ≡ eqb (state_at c level.0) (cond (leb level.0 p.max.0) state 0) }
 {
@@ -106,7 +96,7 @@ fn cpu_used(p: Platform, c: CpuPowerNode, parent: u8, asked: CompositeState) -> 
     let a = c.affinity_info;
     let e = c.entry_point;
     let due = entry_due(p, a, c.local_state);
-    (c.parent.0 == parent) & states_in_range(p, asked) & asks(p, a, asked) & same(is_held(e), due)
+    (c.parent.0 == parent) & states_in_range(p, asked) & asks(p, a, asked) & (is_held(e) == due)
 }
 
 // Are the record and the requests 0 where there is no CPU?
@@ -149,7 +139,7 @@ fn cpu_slot(
     cpu_unused(p, c, asked) & suspends_are(suspends, 0, cpu)
 }
 
-// Is every CPU's slot as it must be?
+// Is every CPU's slot as it must be? The count is of a state that need not be sound, and may be past the table's end.
 #[tactic(auto, unfolding(model::specs::Below::every, model::specs::SoundTest::cpu_slotb))]
 pub fn cpus_sound(
     p: Platform,
@@ -162,12 +152,11 @@ pub fn cpus_sound(
 {
     let n = count as usize;
     let mut sound = true;
-    for i in 0..CPUS {
-        let c = cpus[i];
+    for (i, c) in cpus.iter().enumerate() {
         let parent = parents[i];
         let cpu = CpuNumber(i as u8);
-        let asked = asked_in(&domains.requests, c, cpu);
-        sound = sound & cpu_slot(i < n, p, c, parent, asked, &domains.suspends, cpu);
+        let asked = asked_in(&domains.requests, *c, cpu);
+        sound = sound & cpu_slot(i < n, p, *c, parent, asked, &domains.suspends, cpu);
     }
     sound
 }

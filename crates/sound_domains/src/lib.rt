@@ -49,21 +49,15 @@ fn domain_slot(used: bool, p: Platform, parent: u8, state: u8, minimum: u8, copy
 }
 
 // The minimum of the requests of a domain.
-fn minimum_in<'a>(
-    p: Platform,
-    parents: &'a [u8],
-    starts: &'a [u8],
-    ends: &'a [u8],
-    requests: &'a [u8],
-    domain: u8,
-) -> u8
-    ensures { result ≡ minimum_of (get_or ends.now domain 0)
-        (from_tob (get_or starts.now domain 0) (get_or ends.now domain 0))
-        (at_level requests.now (level_at parents.now p.max.0 domain)) (off_of p) }
+fn minimum_in(p: Platform, tree: &Tree, requests: &[u8], domain: u8) -> u8
+    ensures { result ≡ minimum_of (get_or tree.now.cpu_ends domain 0)
+        (from_tob (get_or tree.now.cpu_starts domain 0) (get_or tree.now.cpu_ends domain 0))
+        (at_level requests.now (level_at tree.now.parents p.max.0 domain)) (off_of p) }
 {
     let k = domain as usize;
-    let level = level_of(parents, p.max, DomainNumber(domain));
-    minimum_at_level(requests, level, at(starts, k), at(ends, k), off(p))
+    let level = level_of(&tree.parents, p.max, DomainNumber(domain));
+    let start = at(&tree.cpu_starts, k);
+    minimum_at_level(requests, level, start, at(&tree.cpu_ends, k), off(p))
 }
 
 // Is every domain's slot as it must be?
@@ -72,15 +66,9 @@ pub fn domains_sound(p: Platform, tree: Tree, domains: Domains) -> bool
 {
     let count = tree.domain_count as usize;
     let mut sound = true;
+    // a number: the domain's, whose level is asked for
     for k in 0..DOMAINS {
-        let minimum = minimum_in(
-            p,
-            &tree.parents,
-            &tree.cpu_starts,
-            &tree.cpu_ends,
-            &domains.requests,
-            k as u8,
-        );
+        let minimum = minimum_in(p, &tree, &domains.requests, k as u8);
         let parent = at(&tree.parents, k);
         let state = at(&domains.states, k);
         let copy = at(&domains.copies, k);

@@ -1,4 +1,5 @@
 -- What the test of a CPU's slot stands for.
+use Rattle.std.specs.Prelude.{Option, None, Some}
 use Prim.Native.Nat.{ℕ, zero, suc, ◌-◌, ◌<◌, ◌≤◌}
 use mathlib.Core.Bool.{Bool, true, false, not, true≢false, ◌&&◌}
 use mathlib.Core.List.{List}
@@ -13,8 +14,7 @@ use Rattle.model.specs.Cpu.{onb, heldb}
 use Rattle.model.specs.declared.cpu.AffinityInfo.{AffinityInfo}
 use Rattle.model.specs.declared.cpu.AffinityInfo.TheVariants as affinity
 use Rattle.model.specs.declared.cpu.CpuPowerNode.{CpuPowerNode}
-use Rattle.model.specs.declared.cpu.Entry.{Entry}
-use Rattle.model.specs.declared.cpu.Entry.TheVariants as entry
+use Rattle.model.specs.declared.cpu.EntryPoint.{EntryPoint}
 use Rattle.model.specs.declared.state.State.{State}
 use Rattle.model.specs.declared.states.CompositeState.{CompositeState}
 use Rattle.model.specs.declared.states.Platform.{Platform}
@@ -155,20 +155,20 @@ on_is affinity.On h = refl
 on_is affinity.Off h = absurd (true≢false (sym h))
 on_is affinity.OnPending h = absurd (true≢false (sym h))
 
-pub none_is : (e : Entry) → heldb e ≡ false → e ≡ entry.Nothing
-none_is entry.Nothing h = refl
-none_is (entry.Held x) h = absurd (true≢false h)
+pub none_is : (e : Option EntryPoint) → heldb e ≡ false → e ≡ None
+none_is None h = refl
+none_is (Some x) h = absurd (true≢false h)
 
 -- a record of these parts
-cpu_of : ℕ → AffinityInfo → ℕ → Entry → CpuPowerNode
+cpu_of : ℕ → AffinityInfo → ℕ → Option EntryPoint → CpuPowerNode
 cpu_of d a x e = record { parent = record { 0 = d }; affinity_info = a; local_state = x; entry_point = e }
 
-no_cpu_is : (d : ℕ) (a : AffinityInfo) (x : ℕ) (e : Entry) → d ≡ 0 → a ≡ affinity.On → x ≡ 0 → e ≡ entry.Nothing → cpu_of d a x e ≡ no_cpu
+no_cpu_is : (d : ℕ) (a : AffinityInfo) (x : ℕ) (e : Option EntryPoint) → d ≡ 0 → a ≡ affinity.On → x ≡ 0 → e ≡ None → cpu_of d a x e ≡ no_cpu
 unfolding cpu_of
 no_cpu_is d a x e h k m n = rw (h, k, m, n)
 
 zero_cpu : (r : CpuPowerNode) → r.parent.0 ≡ 0 → r.affinity_info ≡ affinity.On → r.local_state ≡ 0 →
-    r.entry_point ≡ entry.Nothing → r ≡ no_cpu
+    r.entry_point ≡ None → r ≡ no_cpu
 unfolding cpu_of
 zero_cpu r = no_cpu_is r.parent.0 r.affinity_info r.local_state r.entry_point
 

@@ -2,13 +2,13 @@
 use Prim.Native.Nat.{ℕ, zero, suc, ◌<◌, ◌≤◌}
 use mathlib.Core.List.{List}
 use mathlib.Core.Logic.{◌⊎◌, inl, inr, ⊎_elim}
-use mathlib.Core.Path.{◌≡◌, refl, ap, ◌∙◌}
+use mathlib.Core.Path.{◌≡◌, refl, sym, ap, ◌∙◌}
 use native.Mathlib.Omega.{arith}
 use borrow.Author.Tests.{lt-ltb, ltb-true, eqb-true, eqb-false}
 use lib.Dec.{eqb, ltb}
 use lib.ListN.{get_or, set}
-use lib.Seq.{get_or-set_other}
-use Rattle.basics.proofs.Lists.{get_d_set_default, set_same}
+use lib.Seq.{get_or-set_other, set-get_or}
+use Rattle.basics.proofs.Lists.{get_d_set_default}
 use Rattle.basics.proofs.Tests.{by, cond_rule}
 use Rattle.model.specs.declared.state.Domains.{Domains}
 use Rattle.model.specs.Limits.{cpu_limit}
@@ -100,5 +100,6 @@ module _ (parents : List ℕ) (max first cpu : ℕ) (x : Domains) where
     suspends_kept (suc n) none =
         let r = suspends_kept n (λ l a b. none l a (omega arith)) in
         simp (lt-ltb cpu cpu_limit is_cpu)
-        (set_same (after n).suspends (place_of (suc n) cpu) no_suspend_state 0
-        (ap (λ (row : List ℕ). at_level row (suc n) cpu) r ∙ none (suc n) (omega arith) (omega arith)) ∙ r)
+        (ap (set (after n).suspends (place_of (suc n) cpu))
+        (sym (ap (λ (row : List ℕ). at_level row (suc n) cpu) r ∙ none (suc n) (omega arith) (omega arith)))
+        ∙ set-get_or (after n).suspends (place_of (suc n) cpu) 0 ∙ r)

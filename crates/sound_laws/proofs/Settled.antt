@@ -8,6 +8,7 @@ use borrow.Author.Tests.{eqb-true, eqb-false}
 use lib.Dec.{leb, eqb}
 use lib.ListN.{get_or, set, length}
 use lib.Seq.{get_or-set_same, get_or-set_other}
+use Rattle.std.proofs.lemmas.Grind.{get_or-set_at}
 use Rattle.basics.proofs.Tests.{by}
 use Rattle.minimum.proofs.Minimum.{Counted, minimum_same}
 use Rattle.model.specs.Composite.{state_at}
@@ -22,10 +23,6 @@ use Rattle.model.specs.States.{run}
 use Rattle.model.specs.Table.{at_level}
 use Rattle.model.specs.Tree.{cpu_span_at}
 use Rattle.sound_laws.proofs.Coordinated.{after_levels, level_over, set_state_same, set_state_other, length_states, state_beside, request_asked, request_kept}
-
--- what was stored is read, by another name of its place
-set_read : (row : List ℕ) (d k v : ℕ) → k ≡ d → d < length row → get_or (set row d v) k 0 ≡ v
-set_read row d k v e h = ap (λ (j : ℕ). get_or (set row d v) j 0) e ∙ get_or-set_same row d v 0 h
 
 module _ (t : Tree) (off first cpu upto : ℕ) (rows : Domains) (asked : CompositeState) where
   abbrev at : ℕ → Coordinated
@@ -130,7 +127,7 @@ module _ (t : Tree) (off first cpu upto : ℕ) (rows : Domains) (asked : Composi
               (λ r. simp r
               (by (eqb j n)
               (λ e. let z = eqb-true j n e in
-              rw z (set_read x.states d (over n) _ (sym here)
+              rw z (get_or-set_at x.states d (over n) _ 0 (sym here)
               (omega (arith, length_states t off first cpu upto rows asked n, p.wide, p.inside n h, here)) ∙ (simp r at is)))
               (λ e. let u = eqb-false j n e in
               get_or-set_other x.states d (over j) _ 0 (λ y. u (p.apart j n (omega (arith, u)) h (y ∙ here)))

@@ -1,4 +1,5 @@
 -- A CPU that comes up, with set_running along its path, leaves a sound state sound.
+use Rattle.std.specs.Prelude.{None}
 use Prim.Native.Nat.{ℕ, zero, suc, ◌<◌, ◌≤◌}
 use mathlib.Core.Bool.{true, false, true≢false}
 use mathlib.Core.List.{List}
@@ -11,7 +12,6 @@ use Rattle.model.proofs.Spans.{span_in_lem}
 use Rattle.model.specs.Cpu.{onb}
 use Rattle.model.specs.declared.cpu.AffinityInfo.TheVariants as affinity
 use Rattle.model.specs.declared.cpu.CpuPowerNode.{CpuPowerNode}
-use Rattle.model.specs.declared.cpu.Entry.TheVariants as entry
 use Rattle.model.specs.declared.sorts.DomainNumber.{DomainNumber}
 use Rattle.model.specs.declared.state.Domains.{Domains}
 use Rattle.model.specs.declared.state.State.{State}
@@ -37,7 +37,7 @@ pub record ComesUp (s : State) (c : ℕ) (r : CpuPowerNode) : Type 0 where
   pub under : r.parent ≡ (cpu_at s c).parent
   pub on : r.affinity_info ≡ affinity.On
   pub runs : r.local_state ≡ run
-  pub no_entry : r.entry_point ≡ entry.Nothing
+  pub no_entry : r.entry_point ≡ None
 
 module _ (s : State) (sound : Sound s) (c : ℕ) (r : CpuPowerNode) (up : ComesUp s c r) where
   abbrev parents : List ℕ

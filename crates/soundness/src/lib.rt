@@ -15,7 +15,8 @@ use sound_cpus::cpus_sound;
 use sound_domains::domains_sound;
 use topology::power_domain_tree;
 
-// The tree that the first entries of a row describe: one for the top, and one for each domain.
+// The tree that the first entries of a row describe: one for the top, and one for each domain. The count
+// is of a state that need not be sound.
 fn described(p: Platform, primary: CpuNumber, row: &[u8], domains: u8) -> TreeAnswer
     ensures { result ≡ tree_answer_of p primary (take (suc domains) row.now) }
 {
@@ -39,7 +40,7 @@ pub fn sound(s: State) -> bool
     let made = described(p, board.primary, &board.topology, tree.domain_count);
     let code = made.code;
     let parents = made.cpu_parents;
-    let accepted = code.is_accepted();
+    let accepted = code.is_ok();
     let fits = trees::same_tree(tree, made.tree);
     let ends = trees::entries_end(&board.topology, tree.domain_count);
     let all_cpus = cpus_sound(p, tree.cpu_count, cpus, parents, domains);

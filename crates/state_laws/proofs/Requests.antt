@@ -1,4 +1,5 @@
 -- Laws on a suspend request.
+use Rattle.std.specs.Prelude.{Some}
 use Prim.Native.Nat.{ℕ, zero, suc, ◌<◌, ◌≤◌}
 use mathlib.Core.Bool.{true, false, not, ◌&&◌, and-eq-true_iff}
 use mathlib.Core.Path.{◌≡◌}
@@ -9,7 +10,6 @@ use lib.ListN.{get_or-eq_default}
 use Rattle.basics.proofs.Tests.{by}
 use Rattle.model.proofs.Below.{every_at, highest_is}
 use Rattle.model.specs.declared.states.CompositeState.{CompositeState}
-use Rattle.model.specs.declared.states.FoundLevel.TheVariants as found
 use Rattle.model.specs.declared.states.Platform.{Platform}
 use Rattle.model.specs.Composite.{states_of, state_at, level_in_rangeb, states_in_rangeb, kind_at, non_run_atb, no_deeperb, find_highest_non_run_level_of, is_valid_suspend_requestb}
 use Rattle.model.specs.Below.{every}
@@ -69,7 +69,7 @@ module _ (p : Platform) (c : CompositeState) where
         (λ t. let u = leb-false l m t in let z : l ≡ suc m = omega arith in rw z at e)
 
     -- a valid request has a highest affected level, and it is the one that is found
-    pub valid_highest : (h : ℕ) × (find_highest_non_run_level_of p c ≡ found.At (record { 0 = h })) × HighestAffected p c h
+    pub valid_highest : (h : ℕ) × (find_highest_non_run_level_of p c ≡ Some (record { 0 = h })) × HighestAffected p c h
     valid_highest =
         let top = p.max.0 in
         let starts : non_run_atb p c 0 ≡ true = rw (leb-zero top) parts.1 in

@@ -1,4 +1,4 @@
-ghost use Rattle.std.specs.Prelude.{◌≡◌};
+ghost use Rattle.std.specs.Prelude.{◌≡◌, get_or};
 ghost use Rattle.model.specs.State.{domain_over};
 ghost use Rattle.model.specs.StateQuery.{child_over, node_at, parent_of_byte};
 ghost use Rattle.model.specs.Tree.{child_span_at, cpu_span_at};
@@ -6,42 +6,42 @@ ghost use Rattle.model.specs.Tree.{child_span_at, cpu_span_at};
 use cpu_rows::cpu_in;
 use levels::level_row;
 use model::board::{NO_PARENT, Tree};
-use model::node::{Child, NonCpuPowerNode, Parent, Span};
+use model::node::{NonCpuPowerNode, Span};
 use model::sorts::{CpuNumber, DomainNumber, PowerLevel};
 use model::state::State;
 use paths::ancestors::{on_path, parent_byte};
 use rows::cells::at;
 
 // The parent that a byte stands for.
-pub fn parent_of_byte(b: u8) -> Parent
+pub fn parent_of_byte(b: u8) -> Option<DomainNumber>
     ensures { result ≡ parent_of_byte b }
 {
-    if b == NO_PARENT {
-        return Parent::Top;
+    (b != NO_PARENT).then_some(DomainNumber(b))
+}
+
+// The span that stands at a domain's number in two rows.
+fn span_in<'a>(starts: &'a [u8], ends: &'a [u8], domain: DomainNumber) -> Span
+    ensures { result ≡ record { start = get_or starts.now domain.0 0; end = get_or ends.now domain.0 0 } }
+{
+    let i = domain.0 as usize;
+    Span {
+        start: at(starts, i),
+        end: at(ends, i),
     }
-    Parent::Under(DomainNumber(b))
 }
 
 // The stored span of the CPUs under a domain.
 pub fn cpu_span_at(tree: Tree, domain: DomainNumber) -> Span
     ensures { result ≡ cpu_span_at tree domain.0 }
 {
-    let i = domain.0 as usize;
-    Span {
-        start: at(&tree.cpu_starts, i),
-        end: at(&tree.cpu_ends, i),
-    }
+    span_in(&tree.cpu_starts, &tree.cpu_ends, domain)
 }
 
 // The stored span of the domains directly below a domain.
 pub fn child_span_at(tree: Tree, domain: DomainNumber) -> Span
     ensures { result ≡ child_span_at tree domain.0 }
 {
-    let i = domain.0 as usize;
-    Span {
-        start: at(&tree.child_starts, i),
-        end: at(&tree.child_ends, i),
-    }
+    span_in(&tree.child_starts, &tree.child_ends, domain)
 }
 
 // The node record of a domain of a level.
@@ -72,12 +72,12 @@ pub fn domain_over(s: State, level: PowerLevel, cpu: CpuNumber) -> DomainNumber
 }
 
 // The domain below the one of a level on a CPU's path; below level 1 there is none.
-pub fn child_over(s: State, level: PowerLevel, cpu: CpuNumber) -> Child
+pub fn child_over(s: State, level: PowerLevel, cpu: CpuNumber) -> Option<DomainNumber>
     ensures { result ≡ child_over s level.0 cpu.0 }
 {
     if 2 <= level.0 {
         let below = level.0 - 1;
-        return Child::Given(domain_over(s, PowerLevel(below), cpu));
+        return Some(domain_over(s, PowerLevel(below), cpu));
     }
-    Child::Nothing
+    None
 }

@@ -44,7 +44,7 @@ fn level_in_range(p: Platform, c: CompositeState, level: PowerLevel) -> bool
     s == 0
 }
 
-// Are the states in range at every level?
+// Are the states in range at every level? Four lines, one a level: elsewhere another test stands in them, and no more is shared than `&`.
 #[tactic(auto, unfolding(model::specs::Below::every))]
 pub fn states_in_range(p: Platform, c: CompositeState) -> bool
     ensures { result ≡ states_in_rangeb p c }

@@ -20,14 +20,10 @@ pub fn kind(p: Platform, state: u8) -> Kind
 pub fn depth(k: Kind) -> u8
     ensures { result ≡ depth_of k }
 {
-    match k {
-        Kind::Running => 0,
-        Kind::Retention => 1,
-        Kind::PowerDown => 2,
-    }
+    k as u8
 }
 
-// Is kind a deeper than kind b?
+// Is kind a deeper than kind b? By `depth`, as the definition `deeperb` has it.
 pub fn deeper(a: Kind, b: Kind) -> bool
     ensures { result ≡ deeperb a b }
 {
@@ -38,9 +34,5 @@ pub fn deeper(a: Kind, b: Kind) -> bool
 pub fn power_down(k: Kind) -> bool
     ensures { result ≡ power_downb k }
 {
-    match k {
-        Kind::Running => false,
-        Kind::Retention => false,
-        Kind::PowerDown => true,
-    }
+    k == Kind::PowerDown
 }

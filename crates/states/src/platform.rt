@@ -1,7 +1,7 @@
 ghost use Rattle.std.specs.Prelude.{◌≡◌};
 ghost use Rattle.model.specs.States.{accept_platform_of, betweenb, in_rangeb, off_of, platformb};
 
-use model::code::Code;
+use model::code::Refusal;
 use model::limits::{HIGHEST_MAX, STATES};
 use model::states::Platform;
 
@@ -9,18 +9,14 @@ use model::states::Platform;
 pub fn off(p: Platform) -> u8
     ensures { result ≡ off_of p }
 {
-    let states = p.states;
-    if states == 0 {
-        return 0;
-    }
-    states - 1
+    p.states.saturating_sub(1)
 }
 
 // Is x from low to high, both counted?
 fn between(low: u8, x: u8, high: u8) -> bool
     ensures { result ≡ betweenb low x high }
 {
-    (low <= x) & (x <= high)
+    (low..=high).contains(&x)
 }
 
 // Is the platform acceptable?
@@ -31,13 +27,13 @@ pub fn platform_accepted(p: Platform) -> bool
 }
 
 // 101 for a platform that is not acceptable.
-pub fn accept_platform(p: Platform) -> Code
+pub fn accept_platform(p: Platform) -> Result<(), Refusal>
     ensures { result ≡ accept_platform_of p }
 {
     if platform_accepted(p) {
-        return Code::Accepted;
+        return Ok(());
     }
-    Code::BadBoard
+    Err(Refusal::BadBoard)
 }
 
 // Has the platform this state?

@@ -1,4 +1,4 @@
-ghost use Rattle.std.specs.Prelude.{false, not, ◌∷◌, [], ◌≡◌, get_or};
+ghost use Rattle.std.specs.Prelude.{Bool, ℕ, false, not, ◌∷◌, [], ◌≡◌, get_or};
 ghost use Rattle.model.specs.Below.{highest};
 ghost use Rattle.model.specs.Composite.{find_highest_non_run_level_of, find_highest_power_down_level_of, is_valid_suspend_requestb};
 ghost use Rattle.model.specs.Composite.{kind_at, non_run_atb, power_down_atb};
@@ -6,28 +6,43 @@ ghost use Rattle.model.specs.Limits.{levels};
 ghost use Rattle.model.specs.States.{deeperb};
 
 use crate::composite::{cpu_level_state, state_at, states_in_range};
-use crate::kinds::{depth, kind, power_down};
+use crate::kinds::{deeper, kind, power_down};
 use model::sorts::PowerLevel;
-use model::states::{CompositeState, FoundLevel, Platform};
+use model::states::{CompositeState, Platform};
 
 // The highest level at which the flag is set.
 #[tactic(auto, unfolding(model::specs::Below::highest))]
-fn highest_set(at0: bool, at1: bool, at2: bool, at3: bool) -> FoundLevel
+fn highest_set(at0: bool, at1: bool, at2: bool, at3: bool) -> Option<PowerLevel>
     ensures { result ≡ highest levels (λ l. get_or (at0 ∷ at1 ∷ at2 ∷ at3 ∷ []) l false) }
 {
     if at3 {
-        return FoundLevel::At(PowerLevel(3));
+        return Some(PowerLevel(3));
     }
     if at2 {
-        return FoundLevel::At(PowerLevel(2));
+        return Some(PowerLevel(2));
     }
     if at1 {
-        return FoundLevel::At(PowerLevel(1));
+        return Some(PowerLevel(1));
     }
     if at0 {
-        return FoundLevel::At(PowerLevel(0));
+        return Some(PowerLevel(0));
     }
-    FoundLevel::Nothing
+    None
+}
+
+// The highest level at which a test holds.
+#[tactic(auto, unfolding(model::specs::Below::highest))]
+fn highest_at<F: Fn(PowerLevel) -> bool + Drop>(test: F) -> Option<PowerLevel>
+    requires { F.IsAlwaysCallable test }
+    ensures { (holds : ℕ → Bool) → ((level : PowerLevel) (x : Bool) → F.post test level x → x ≡ holds level.0)
+        → result ≡ highest levels holds }
+{
+    highest_set(
+        test(PowerLevel(0)),
+        test(PowerLevel(1)),
+        test(PowerLevel(2)),
+        test(PowerLevel(3)),
+    )
 }
 
 // Is this a level up to MAX that is not RUN?
@@ -38,16 +53,10 @@ fn non_run_at(p: Platform, c: CompositeState, level: PowerLevel) -> bool
 }
 
 // The highest level that is not RUN: a suspend's highest affected level.
-#[tactic(auto, unfolding(model::specs::Below::highest))]
-pub fn find_highest_non_run_level(p: Platform, c: CompositeState) -> FoundLevel
+pub fn find_highest_non_run_level(p: Platform, c: CompositeState) -> Option<PowerLevel>
     ensures { result ≡ find_highest_non_run_level_of p c }
 {
-    highest_set(
-        non_run_at(p, c, PowerLevel(0)),
-        non_run_at(p, c, PowerLevel(1)),
-        non_run_at(p, c, PowerLevel(2)),
-        non_run_at(p, c, PowerLevel(3)),
-    )
+    highest_at(|level| non_run_at(p, c, level))
 }
 
 // Is this a level up to MAX that is power-down?
@@ -58,27 +67,19 @@ fn power_down_at(p: Platform, c: CompositeState, level: PowerLevel) -> bool
 }
 
 // The highest level that is power-down.
-#[tactic(auto, unfolding(model::specs::Below::highest))]
-pub fn find_highest_power_down_level(p: Platform, c: CompositeState) -> FoundLevel
+pub fn find_highest_power_down_level(p: Platform, c: CompositeState) -> Option<PowerLevel>
     ensures { result ≡ find_highest_power_down_level_of p c }
 {
-    highest_set(
-        power_down_at(p, c, PowerLevel(0)),
-        power_down_at(p, c, PowerLevel(1)),
-        power_down_at(p, c, PowerLevel(2)),
-        power_down_at(p, c, PowerLevel(3)),
-    )
+    highest_at(|level| power_down_at(p, c, level))
 }
 
 // Is the kind of a level no deeper than that of the level below it?
 fn no_deeper(p: Platform, c: CompositeState, above: PowerLevel, below: PowerLevel) -> bool
     ensures { result ≡ not (deeperb (kind_at p c above.0) (kind_at p c below.0)) }
 {
-    let high = state_at(c, above);
-    let low = state_at(c, below);
-    let high_depth = depth(kind(p, high));
-    let low_depth = depth(kind(p, low));
-    !(low_depth < high_depth)
+    let high = kind(p, state_at(c, above));
+    let low = kind(p, state_at(c, below));
+    !deeper(high, low)
 }
 
 // Is this a valid suspend request: states in range, level 0 not RUN, no level's kind deeper than the kind below it?

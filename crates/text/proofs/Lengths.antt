@@ -6,9 +6,8 @@ use native.Mathlib.Omega.{arith}
 use lib.Dec.{ltb, eqb}
 use lib.IntN.{ℤ, pos, negsuc}
 use lib.ListN.{length, drop, length-append}
-use Rattle.model.specs.Numbers.{number_of, signed_of}
+use Rattle.model.specs.Numbers.{Code, number_of, signed_of}
 use Rattle.model.specs.State.{max_at, domain_count_of, cpu_count_of}
-use Rattle.model.specs.declared.code.Code.{Code}
 use Rattle.model.specs.declared.state.State.{State}
 use Rattle.script.specs.AnswerRecord.{answer_size, no_cpu_state}
 use Rattle.script.specs.Bytes.{byte_at, number_at}

@@ -4,13 +4,13 @@ use mathlib.Core.List.{List, [], ◌∷◌, ◌++◌, append_assoc, append-nil}
 use mathlib.Core.Path.{◌≡◌, refl, sym, ap, ◌∙◌}
 use native.Mathlib.Numerals.{add-one}
 use native.Mathlib.Omega.{arith}
-use borrow.Author.Tests.{eq-eqb, ne_eqb}
+use borrow.Author.Tests.{ne_eqb}
 use lib.ListN.{drop}
 use lib.Seq.{get_or-drop, drop-drop}
 use Rattle.model.specs.Numbers.{signed_of}
 use Rattle.script.specs.AnswerRecord.{answer_size, no_cpu_state}
 use Rattle.script.specs.Bytes.{byte_at, number_at}
-use Rattle.script.specs.Printed.{space, newline, dash, decimal_of, signed_text_of, states_text, shown_text, answer_line, answer_lines}
+use Rattle.script.specs.Printed.{space, newline, decimal_of, signed_text_of, states_text, shown_text, answer_line, answer_lines}
 
 states_more : (l : List ℕ) (n place : ℕ) →
     states_text n l place ++ space ∷ decimal_of (byte_at l (place + n)) ≡ states_text (suc n) l place
@@ -57,10 +57,6 @@ states_drop l (suc n) start place =
     simp (get_or-drop, states_drop l n start (suc place), e)
 
 module _ (max : ℕ) (l : List ℕ) (start : ℕ) where
-  -- no such CPU
-  pub shown_none : {state : ℕ} → state ≡ byte_at l (start + 9) → state ≡ no_cpu_state → space ∷ dash ∷ [] ≡ shown_text max (drop start l)
-  shown_none e h = let n : byte_at (drop start l) 9 ≡ no_cpu_state = get_or-drop start l 9 0 ∙ sym e ∙ h in simp (eq-eqb _ _ n)
-
   -- the states of a CPU
   pub shown_states : {state : ℕ} → state ≡ byte_at l (start + 9) → (state ≡ no_cpu_state → ⊥) →
       states_text (suc max) l (start + 9) ≡ shown_text max (drop start l)

@@ -9,8 +9,8 @@ ghost use Rattle.text.specs.Put.{Put};
 mod lines;
 mod pieces;
 
-use crate::lines::{put_answers, put_board, put_end, put_refused};
-use model::code::Code;
+use crate::pieces::Page;
+use model::code::Refusal;
 use model::state::State;
 
 // Puts the text of a run on a board at the front: so many events with their answer records, and the closing number. The length of
@@ -20,20 +20,24 @@ pub fn run_text<'a>(
     s: State,
     answers: &'a [u8],
     events: u32,
-    closing: Code,
+    closing: Result<(), Refusal>,
 ) -> usize
     ensures { Put text.old 0
         (board_line s ++ answer_lines (max_at s) events answers.now ++ end_line events closing) text.new result }
 {
     let max = s.board.platform.max;
-    let board = put_board(text, 0, s);
-    let lines = put_answers(text, board, answers, events, max);
-    put_end(text, lines, events, closing)
+    let mut page = Page { text, at: 0 };
+    page.board(s);
+    page.answers(answers, events, max);
+    page.end(events, closing);
+    page.at
 }
 
 // Puts the text of a refusal at the front.
-pub fn refused_line(text: &mut [u8], code: Code) -> usize
+pub fn refused_line(text: &mut [u8], code: Result<(), Refusal>) -> usize
     ensures { Put text.old 0 (refused_line code) text.new result }
 {
-    put_refused(text, 0, code)
+    let mut page = Page { text, at: 0 };
+    page.refused(code);
+    page.at
 }

@@ -1,22 +1,20 @@
 -- The walks over the entries and the levels: a step of each, and its end.
 use Prim.Native.Nat.{ℕ, zero, suc, ◌+◌, ◌-◌, ◌<◌, ◌≤◌}
-use mathlib.Core.Bool.{true, false}
-use mathlib.Core.List.{List}
-use mathlib.Core.Path.{◌≡◌, refl, sym, ap}
+use mathlib.Core.Bool.{Bool, ◌&&◌}
+use mathlib.Core.List.{List, [], ◌∷◌}
+use mathlib.Core.Path.{◌≡◌, refl, ap, ◌∙◌}
 use native.Mathlib.Omega.{arith}
 use native.Mathlib.Numerals.{add-one}
-use borrow.Author.Tests.{lt-ltb, le-ltb, lt-leb, le-leb, eq-eqb, ne_eqb}
-use lib.ListN.{length, get_or, take, drop, drop_of_length-le}
-use lib.Seq.{drop-cons, take_all}
+use borrow.Author.Tests.{lt-ltb, le-ltb, eq-eqb, ne_eqb}
+use lib.Dec.{leb}
+use lib.ListN.{length, get_or, drop, drop_of_length-le}
+use lib.Seq.{drop-cons}
+use Rattle.std.proofs.lemmas.List.Sums.{sum_by-cons}
+use Rattle.std.specs.List.{list_all, sum_by}
 use Rattle.model.specs.Topology.{total_of, entry_of, entriesb, start_of, down_of, domains_of, parent_of, level_of}
 
 module _ (t : List ℕ) (i : ℕ) where
   module _ (h : i < length t) where
-    -- the sum of what is left is the next entry and the sum of the rest
-    pub total_next : total_of (drop i t) ≡ get_or t i 0 + total_of (drop (i + 1) t)
-    unfolding total_of
-    total_next = rw (drop-cons t i 0 h, add-one)
-
     -- a node that the next entry counts
     pub entry_found : (n : ℕ) → n < get_or t i 0 → entry_of (drop i t) n ≡ 0
     unfolding entry_of
@@ -27,41 +25,25 @@ module _ (t : List ℕ) (i : ℕ) where
     unfolding entry_of
     entry_next n k = rw (drop-cons t i 0 h, add-one) (simp (le-ltb _ _ k))
 
-    -- the next entry is 0
-    pub entries_not : get_or t i 0 < 1 → entriesb (drop i t) ≡ false
-    unfolding entriesb
-    entries_not k = rw (drop-cons t i 0 h) (simp (lt-leb _ _ k))
-
-    -- and where it is not, it is on the rest
-    pub entries_next : 1 ≤ get_or t i 0 → entriesb (drop i t) ≡ entriesb (drop (i + 1) t)
-    unfolding entriesb
-    entries_next k = rw (drop-cons t i 0 h, add-one) (simp (le-leb _ _ k))
-
   module _ (h : length t ≤ i) where
-    -- past the last entry nothing is left to sum
-    pub total_end : total_of (drop i t) ≡ 0
-    unfolding total_of
-    total_end = rw (drop_of_length-le t h)
-
-    -- nor to count a node
+    -- past the last entry none is left to count a node
     pub entry_end : (n : ℕ) → entry_of (drop i t) n ≡ 0
     unfolding entry_of
     entry_end n = rw (drop_of_length-le t h)
 
-    -- nor to be 0
-    pub entries_end : entriesb (drop i t) ≡ true
-    unfolding entriesb
-    entries_end = rw (drop_of_length-le t h)
+-- the entries are summed as any list is
+pub total_is : (t : List ℕ) → sum_by (λ x. x) t ≡ total_of t
+unfolding total_of
+total_is [] = refl
+total_is (x ∷ xs) = sum_by-cons (λ y. y) x xs ∙ ap (λ (n : ℕ). x + n) (total_is xs)
+
+-- and each is tested
+pub entries_is : (t : List ℕ) → list_all (λ x. leb 1 x) t ≡ entriesb t
+unfolding entriesb
+entries_is [] = refl
+entries_is (x ∷ xs) = ap (λ (b : Bool). leb 1 x && b) (entries_is xs)
 
 module _ (t : List ℕ) where
-  -- a sum of the entries up to k's is where the children of k start
-  pub start_in : (k : ℕ) → total_of (take ((k + 1) - 0) (drop 0 t)) ≡ start_of t k
-  start_in k = let z : (k + 1) - 0 ≡ suc k = omega arith in rw z
-
-  -- past the last entry the sum is that of all
-  pub start_past : (k : ℕ) → length t ≤ k → total_of t ≡ start_of t k
-  start_past k h = ap total_of (sym (take_all (suc k) t (omega arith)))
-
   -- no levels have no domains
   pub domains_none : domains_of t 0 ≡ 0
   unfolding down_of

@@ -1,10 +1,10 @@
-ghost use Rattle.std.specs.Prelude.{◌≡◌, ◌<◌, ◌≤◌, length};
+ghost use Rattle.std.specs.Prelude.{◌≡◌, ◌<◌};
 ghost use Rattle.model.specs.Assign.{all_assigned_of, assigned_of, entered_of, span_rows};
-ghost use Rattle.model.specs.Limits.{domain_limit, entry_limit};
 ghost use Rattle.model.specs.Span.{grown_of};
-ghost use Rattle.model.specs.Topology.{domains_of};
+ghost use Rattle.model.specs.Topology.{cpus_of};
+ghost use Rattle.model.specs.Tree.{no_row};
 
-use crate::sums::cpu_parent;
+use crate::accept::Topology;
 use model::limits::DOMAINS;
 use model::node::Span;
 use model::sorts::{CpuNumber, DomainNumber};
@@ -20,7 +20,7 @@ fn start_with(span: Span, cpu: CpuNumber) -> u8
     span.start
 }
 
-// Enters a CPU into the span of one domain.
+// Enters a CPU into the span of one domain. Two rows and no struct of them: two functions alone take them.
 fn enter(starts: &mut [u8; DOMAINS], ends: &mut [u8; DOMAINS], domain: DomainNumber, cpu: CpuNumber)
     requires { cpu.0 < 255 }
     ensures { span_rows starts.new ends.new
@@ -56,28 +56,26 @@ fn assign_cpu(
     assign_cpu(parents, starts, ends, parent, cpu, left - 1);
 }
 
-// Enters the first CPUs in turn, each from the domain directly above it.
-pub(super) fn assign_all(
-    t: &[u8],
-    max: u8,
-    parents: &[u8; DOMAINS],
-    starts: &mut [u8; DOMAINS],
-    ends: &mut [u8; DOMAINS],
-    cpus: u8,
-)
-    requires { (length t.now ≤ entry_limit) × (domains_of t.now max ≤ domain_limit) }
-    ensures { span_rows starts.new ends.new
-        ≡ all_assigned_of t.now max parents.now cpus (span_rows starts.old ends.old) }
-{
-    for cpu in 0..cpus {
-        let parent = cpu_parent(t, max, cpu);
-        assign_cpu(
-            parents,
-            starts,
-            ends,
-            DomainNumber(parent),
-            CpuNumber(cpu),
-            max,
-        );
+impl<'a> Topology<'a> {
+    // The rows of the starts and of the ends of the CPU spans. Every CPU is entered in turn, from the domain directly above it.
+    pub(super) fn cpu_spans(&self, parents: &[u8; DOMAINS]) -> ([u8; DOMAINS], [u8; DOMAINS])
+        ensures { span_rows result.0 result.1
+            ≡ all_assigned_of self.now.entries self.now.max parents.now (cpus_of self.now.entries self.now.max)
+            (span_rows no_row no_row) }
+    {
+        let mut starts = [0; DOMAINS];
+        let mut ends = [0; DOMAINS];
+        for cpu in 0..self.cpu_count() {
+            let parent = DomainNumber(self.cpu_parent(cpu));
+            assign_cpu(
+                parents,
+                &mut starts,
+                &mut ends,
+                parent,
+                CpuNumber(cpu),
+                self.max,
+            );
+        }
+        (starts, ends)
     }
 }

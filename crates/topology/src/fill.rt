@@ -1,70 +1,73 @@
-ghost use Rattle.std.specs.Prelude.{◌≡◌, ◌<◌, ◌≤◌, length};
-ghost use Rattle.model.specs.Limits.{domain_limit, entry_limit};
-ghost use Rattle.model.specs.Table.{cpu_row_of, domain_row_of, filled_of};
-ghost use Rattle.model.specs.Topology.{cpu_node_of, domains_of, parent_of, total_of};
-ghost use Rattle.model.specs.Tree.{child_span_of, parent_byte_of};
+ghost use Rattle.std.specs.Prelude.{◌≡◌, ℕ};
+ghost use Rattle.model.specs.Table.{domain_row_of, table_of};
+ghost use Rattle.model.specs.Topology.{cpu_node_of, domains_of, parent_of};
+ghost use Rattle.model.specs.Tree.{child_span_of, cpu_parents_of, parent_byte_of};
 
-use crate::sums::{cpu_parent, level, parent_byte, start};
+use crate::accept::Topology;
 use model::limits::{CPUS, DOMAINS};
 use model::node::Span;
 use rows::cells::put;
 
-// The row of the domains' parents.
-pub(super) fn parents(t: &[u8], domains: usize) -> [u8; DOMAINS]
-    requires { length t.now ≤ entry_limit }
-    ensures { result ≡ domain_row_of (parent_byte_of t.now) domains }
+// A row of bytes. The first places, so many as are asked for, hold what a function gives for their numbers, the others 0.
+fn row<const N: usize, F: Fn(u8) -> u8>(n: u8, value: F) -> [u8; N]
+    requires { F.IsAlwaysCallable value }
+    ensures { (v : ℕ → ℕ) → ((k x : ℕ) → F.post value k x → x ≡ v k) → result ≡ table_of N 0 v n }
 {
-    let mut row = [0; DOMAINS];
-    for k in 0..domains {
-        let byte = parent_byte(t, k);
-        put(&mut row, k, byte);
+    let mut row = [0; N];
+    for k in 0..n {
+        put(&mut row, k as usize, value(k));
     }
     row
 }
 
-// The domains directly below domain k.
-fn child_span(t: &[u8], max: u8, k: usize) -> Span
-    requires { (length t.now ≤ entry_limit) × (total_of t.now ≤ 255) × (k < domain_limit) }
-    ensures { result ≡ child_span_of t.now max k }
-{
-    if level(t, max, k) == 1 {
-        return Span { start: 0, end: 0 };
+impl<'a> Topology<'a> {
+    // The row of the domains' parents.
+    pub(super) fn parents(&self) -> [u8; DOMAINS]
+        ensures { result ≡ domain_row_of (parent_byte_of self.now.entries) (domains_of self.now.entries self.now.max) }
+    {
+        row(
+            self.domain_count(),
+            |k| self.entries.parent_byte(k as usize),
+        )
     }
-    let end = start(t, k + 1) as u8;
-    let start = start(t, k) as u8;
-    Span { start, end }
-}
 
-// Fills the rows of the starts and of the ends of those spans.
-pub(super) fn child_spans(
-    t: &[u8],
-    max: u8,
-    starts: &mut [u8; DOMAINS],
-    ends: &mut [u8; DOMAINS],
-    domains: usize,
-)
-    requires { (length t.now ≤ entry_limit) × (total_of t.now ≤ 255) × (domains ≤ domain_limit) }
-    ensures starts_after { starts.new
-        ≡ filled_of (λ k. (child_span_of t.now max k).start) 0 domains starts.old }
-    ensures ends_after { ends.new
-        ≡ filled_of (λ k. (child_span_of t.now max k).end) 0 domains ends.old }
-{
-    for k in 0..domains {
-        let span = child_span(t, max, k);
-        put(starts, k, span.start);
-        put(ends, k, span.end);
+    // The domains directly below domain k.
+    fn child_span(&self, k: u8) -> Span
+        ensures { result ≡ child_span_of self.now.entries self.now.max k }
+    {
+        if self.entries.level(self.max, k as usize) == 1 {
+            return Span { start: 0, end: 0 };
+        }
+        let start = self.entries.start(k as usize) as u8;
+        let end = self.entries.start(k as usize + 1) as u8;
+        Span { start, end }
     }
-}
 
-// The row of the CPUs' parents.
-pub(super) fn cpu_parents(t: &[u8], max: u8, cpus: u8) -> [u8; CPUS]
-    requires { (length t.now ≤ entry_limit) × (domains_of t.now max ≤ domain_limit) }
-    ensures { result ≡ cpu_row_of (λ c. parent_of t.now (cpu_node_of t.now max c)) cpus }
-{
-    let mut row = [0; CPUS];
-    for cpu in 0..cpus {
-        let parent = cpu_parent(t, max, cpu);
-        put(&mut row, cpu as usize, parent);
+    // The rows of the starts and of the ends of those spans.
+    pub(super) fn child_spans(&self) -> ([u8; DOMAINS], [u8; DOMAINS])
+        ensures starts { result.0 ≡ domain_row_of (λ k. (child_span_of self.now.entries self.now.max k).start)
+            (domains_of self.now.entries self.now.max) }
+        ensures ends { result.1 ≡ domain_row_of (λ k. (child_span_of self.now.entries self.now.max k).end)
+            (domains_of self.now.entries self.now.max) }
+    {
+        let starts = row(self.domain_count(), |k| self.child_span(k).start);
+        let ends = row(self.domain_count(), |k| self.child_span(k).end);
+        (starts, ends)
     }
-    row
+
+    // The domain directly above a CPU.
+    pub(super) fn cpu_parent(&self, cpu: u8) -> u8
+        ensures { result ≡ parent_of self.now.entries (cpu_node_of self.now.entries self.now.max cpu) }
+    {
+        let node = self.domain_count() as usize + cpu as usize;
+        self.entries.parent(node)
+    }
+
+    // The row of the CPUs' parents.
+    #[tactic(auto, unfolding(model::specs::Tree::cpu_parents_of))]
+    pub(super) fn cpu_parents(&self) -> [u8; CPUS]
+        ensures { result ≡ cpu_parents_of self.now.entries self.now.max }
+    {
+        row(self.cpu_count(), |cpu| self.cpu_parent(cpu))
+    }
 }

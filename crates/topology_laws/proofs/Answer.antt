@@ -3,10 +3,11 @@ use Prim.Native.Nat.{ℕ}
 use mathlib.Core.Bool.{true, false, true≢false}
 use mathlib.Core.List.{List}
 use mathlib.Core.Path.{◌≡◌, sym, ◌∙◌}
+use Rattle.std.specs.Prelude.{Ok}
 use Rattle.basics.proofs.Is.{Is}
 use Rattle.basics.proofs.Tests.{by}
 use Rattle.model.specs.declared.board.TreeAnswer.{TreeAnswer}
-use Rattle.model.specs.declared.code.Code.TheVariants as code
+use Rattle.model.specs.declared.code.Refusal.TheVariants as code
 use Rattle.model.specs.declared.sorts.CpuNumber.{CpuNumber}
 use Rattle.model.specs.declared.states.Platform.{Platform}
 use Rattle.model.specs.Numbers.{acceptedb}
@@ -16,7 +17,7 @@ use Rattle.model.specs.Tree.{tree_of, cpu_parents_of, tree_answer_of}
 module _ (p : Platform) (primary : CpuNumber) (t : List ℕ) where
   -- the tree of a board that is acceptable
   abbrev pub made_of : TreeAnswer
-  made_of = record { code = code.Accepted; tree = tree_of t p.max.0; cpu_parents = cpu_parents_of t p.max.0 }
+  made_of = record { code = Ok tt; tree = tree_of t p.max.0; cpu_parents = cpu_parents_of t p.max.0 }
 
   pub answer_made : boardb p primary t ≡ true → tree_answer_of p primary t ≡ made_of
   unfolding tree_answer_of

@@ -20,15 +20,11 @@ fn serve() -> bool {
     io::write_all(STDOUT, &reply)
 }
 
-// A proved loop has to end, and nothing says that the input does. So the loop counts its turns down, from a number that no run
-// uses up.
-fn serve_all() {
-    let mut turns = u64::MAX;
-    while turns > 0 && serve() {
-        turns -= 1;
-    }
-}
-
+// A proved loop has to end, and nothing says that the input does. So the loop has a number of turns, one that no run uses up.
 fn main() {
-    serve_all();
+    for _ in 0..u64::MAX {
+        if !serve() {
+            break;
+        }
+    }
 }

@@ -1,5 +1,5 @@
 -- docs/REFERENCE.md, 'A request and its reply'.
-use Rattle.std.specs.Prelude.{ℕ, zero, suc, ◌+◌, ◌*◌, cond, List, [], ◌∷◌, ◌++◌, eqb, drop, take}
+use Rattle.std.specs.Prelude.{ℕ, zero, suc, ◌+◌, ◌*◌, cond, List, [], ◌∷◌, ◌++◌, eqb, drop, take, Err}
 use Rattle.image.specs.Image.{state_in}
 use Rattle.model.specs.Answer.{answered, nothing_out, refused}
 use Rattle.model.specs.Calls.{call_of}
@@ -7,7 +7,7 @@ use Rattle.model.specs.Composite.{state_at}
 use Rattle.model.specs.State.{cpu_at, max_at}
 use Rattle.model.specs.Table.{filled_of}
 use Rattle.model.specs.declared.answer.CallAnswer.{CallAnswer}
-use Rattle.model.specs.declared.code.Code.TheVariants as code
+use Rattle.model.specs.declared.code.Refusal.TheVariants as code
 use Rattle.model.specs.declared.state.State.{State}
 use Rattle.script.specs.Bytes.{byte_at}
 use Rattle.script.specs.Record.{read_of}
@@ -107,9 +107,9 @@ started_of x = answered x.code nothing_out x.state
 
 -- an event that was read, or 108
 abbrev pub event_of : State → Read → CallAnswer
-event_of s read.End = refused s code.Malformed
+event_of s read.End = refused s (Err code.Malformed)
 event_of s (read.Event c next) = call_of s c
-event_of s read.Malformed = refused s code.Malformed
+event_of s read.Malformed = refused s (Err code.Malformed)
 
 -- a request: its kind, a record in 28 bytes, and for an event the state before it
 abbrev pub record_in : List ℕ → List ℕ

@@ -16,7 +16,7 @@ use crate::tables::lay;
 use events::call;
 use image::state_in;
 use model::answer::CallAnswer;
-use model::code::Code;
+use model::code::Refusal;
 use model::state::State;
 use outgoing::nothing_out;
 use reader::read_record;
@@ -24,10 +24,12 @@ use rows::cells::at;
 use script::record::Read;
 use script_run::start;
 
-// The bytes of a request, and of a reply.
+// The bytes of a request, and of a reply. Its tables are laid at places that are numbers, as `reply_onto` says.
 pub const REQUEST: usize = 581;
 
 pub const REPLY: usize = 1254;
+
+// Tables by place and size, as docs/REFERENCE.md lists them; a list of the same lines with a walk over it would be no shorter.
 
 // The code and what goes out.
 #[tactic(auto, unfolding(crate::specs::Reply::tables_onto))]
@@ -120,7 +122,7 @@ pub fn event(state: State, bytes: &[u8]) -> CallAnswer
     let max = state.board.platform.max;
     let Read::Event(made, next) = read_record(bytes, max) else {
         return CallAnswer {
-            code: Code::Malformed,
+            code: Err(Refusal::Malformed),
             out: nothing_out(),
             state,
         };
@@ -128,7 +130,8 @@ pub fn event(state: State, bytes: &[u8]) -> CallAnswer
     call(state, made)
 }
 
-// The answer to a request: a kind, 2 for a start and else an event; a record; for an event the state before it.
+// The answer to a request: a kind, 2 for a start and else an event; a record; for an event the state before it. The kind
+// stays a byte, for it is read once and matched in the same line.
 #[tactic(auto, unfolding(crate::specs::Reply::answer_to))]
 pub fn answer(request: &[u8; REQUEST]) -> CallAnswer
     ensures { result ≡ answer_to request.now }

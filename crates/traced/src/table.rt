@@ -1,4 +1,5 @@
 // The tables of a reply, in their order: what goes out, the state after the call, the queries of that state.
+// They are named, and no closures, since `cell_of`, of which write_reply promises the bytes, goes by these names.
 #[derive(Clone, Copy)]
 pub enum Table {
     // code, whether a suspend was not entered, which wake it was

@@ -6,15 +6,11 @@ ghost use Rattle.traced.specs.Reply.{cell_of, rows_onto};
 use crate::table::Table;
 use model::answer::CallAnswer;
 use model::sorts::PowerLevel;
-use rows::cells::put;
+use rows::cells::{at, put};
 use states::composite::state_at;
 use traced_bytes::out::{handed_byte, head_byte, notices_byte};
 use traced_bytes::queries::{all_on_byte, allowed_byte, beside_byte, last_byte, last_to_idle_byte};
-use traced_bytes::stored::{
-    board_byte, child_ends_byte, child_starts_byte, copies_byte, counts_byte, cpu_ends_byte,
-    cpu_starts_byte, cpus_byte, domain_states_byte, parents_byte, requests_byte, state_mode_byte,
-    suspends_byte, topology_byte,
-};
+use traced_bytes::stored::{board_byte, counts_byte, cpus_byte, state_mode_byte};
 
 // What stands in a table, by row and column.
 #[tactic(auto, unfolding(crate::specs::Reply::cell_of))]
@@ -28,18 +24,18 @@ fn cell(a: CallAnswer, table: Table, row: u8, column: u8) -> u8
         Table::States => state_at(a.out.states, PowerLevel(column)),
         Table::Notices => notices_byte(a.out, row, i),
         Table::Board => board_byte(a.state.board, i),
-        Table::Topology => topology_byte(a.state.board, i),
+        Table::Topology => at(&a.state.board.topology, i),
         Table::Counts => counts_byte(a.state.tree, i),
-        Table::Parents => parents_byte(a.state.tree, i),
-        Table::CpuStarts => cpu_starts_byte(a.state.tree, i),
-        Table::CpuEnds => cpu_ends_byte(a.state.tree, i),
-        Table::ChildStarts => child_starts_byte(a.state.tree, i),
-        Table::ChildEnds => child_ends_byte(a.state.tree, i),
+        Table::Parents => at(&a.state.tree.parents, i),
+        Table::CpuStarts => at(&a.state.tree.cpu_starts, i),
+        Table::CpuEnds => at(&a.state.tree.cpu_ends, i),
+        Table::ChildStarts => at(&a.state.tree.child_starts, i),
+        Table::ChildEnds => at(&a.state.tree.child_ends, i),
         Table::Cpus => cpus_byte(a.state, row, i),
-        Table::DomainStates => domain_states_byte(a.state.domains, i),
-        Table::Requests => requests_byte(a.state.domains, i),
-        Table::Suspends => suspends_byte(a.state.domains, i),
-        Table::Copies => copies_byte(a.state.domains, i),
+        Table::DomainStates => at(&a.state.domains.states, i),
+        Table::Requests => at(&a.state.domains.requests, i),
+        Table::Suspends => at(&a.state.domains.suspends, i),
+        Table::Copies => at(&a.state.domains.copies, i),
         Table::Mode => state_mode_byte(a.state),
         Table::AllOn => all_on_byte(a.state),
         Table::IsLast => last_byte(a.state, column),

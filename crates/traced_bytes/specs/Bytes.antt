@@ -1,7 +1,7 @@
 -- docs/REFERENCE.md, 'A request and its reply': what goes out, in bytes.
-use Rattle.std.specs.Prelude.{ℕ, ◌-◌, Bool, cond, List, [], ◌∷◌, ◌++◌, ltb, get_or}
+use Rattle.std.specs.Prelude.{ℕ, ◌-◌, Bool, cond, List, [], ◌∷◌, ◌++◌, ltb, get_or, Option, None, Some}
 use Rattle.model.specs.Composite.{states_of}
-use Rattle.model.specs.Numbers.{number_of}
+use Rattle.model.specs.Numbers.{Code, number_of}
 use Rattle.model.specs.declared.answer.CallAnswer.{CallAnswer}
 use Rattle.model.specs.declared.answer.Notice.{Notice}
 use Rattle.model.specs.declared.answer.Notice.TheVariants as notice
@@ -10,12 +10,9 @@ use Rattle.model.specs.declared.answer.WakeUpReason.{WakeUpReason}
 use Rattle.model.specs.declared.answer.WakeUpReason.TheVariants as wake
 use Rattle.model.specs.declared.board.Board.{Board}
 use Rattle.model.specs.declared.board.Tree.{Tree}
-use Rattle.model.specs.declared.code.Code.{Code}
 use Rattle.model.specs.declared.cpu.AffinityInfo.{AffinityInfo}
 use Rattle.model.specs.declared.cpu.AffinityInfo.TheVariants as affinity
 use Rattle.model.specs.declared.cpu.CpuPowerNode.{CpuPowerNode}
-use Rattle.model.specs.declared.cpu.Entry.{Entry}
-use Rattle.model.specs.declared.cpu.Entry.TheVariants as entry
 use Rattle.model.specs.declared.cpu.EntryPoint.{EntryPoint}
 use Rattle.model.specs.declared.state.SuspendMode.{SuspendMode}
 use Rattle.model.specs.declared.state.SuspendMode.TheVariants as mode
@@ -28,10 +25,10 @@ code_byte k = signed_byte_of (number_of k)
 abbrev pub flag_byte : Bool → ℕ
 flag_byte b = cond b 1 0
 
-abbrev pub wake_byte : WakeUpReason → ℕ
-wake_byte wake.Nothing = 0
-wake_byte wake.CpuOn = 1
-wake_byte wake.SuspendFinished = 2
+abbrev pub wake_byte : Option WakeUpReason → ℕ
+wake_byte None = 0
+wake_byte (Some wake.CpuOn) = 1
+wake_byte (Some wake.SuspendFinished) = 2
 
 abbrev pub affinity_byte : AffinityInfo → ℕ
 affinity_byte affinity.On = 0
@@ -47,9 +44,9 @@ abbrev pub point_bytes : ℕ → EntryPoint → List ℕ
 point_bytes first e = first ∷ bytes_of 8 e.address ++ bytes_of 8 e.context
 
 -- an entry in 17 bytes: whether it is held, its address and its context
-abbrev pub entry_byte : Entry → ℕ → ℕ
-entry_byte entry.Nothing i = 0
-entry_byte (entry.Held e) i = byte_at (point_bytes 1 e) i
+abbrev pub entry_byte : Option EntryPoint → ℕ → ℕ
+entry_byte None i = 0
+entry_byte (Some e) i = byte_at (point_bytes 1 e) i
 
 -- a CPU in 20 bytes: parent, affinity, state, and its entry
 abbrev pub cpu_byte : CpuPowerNode → ℕ → ℕ
@@ -58,23 +55,23 @@ cpu_byte c i =
     (entry_byte c.entry_point (i - 3))
 
 -- a notice: its kind, and what it carries
-abbrev pub notice_bytes : Notice → List ℕ
-notice_bytes notice.Nothing = []
-notice_bytes notice.SpmToldOff = 1 ∷ []
-notice_bytes (notice.SpmToldSuspend e) = point_bytes 2 e
-notice_bytes (notice.SpmToldSystemSuspend e) = point_bytes 3 e
-notice_bytes notice.SpmNotifiedOff = 4 ∷ []
-notice_bytes notice.SpmAbandon = 5 ∷ []
-notice_bytes (notice.CorePowerDown level) = 6 ∷ level.0 ∷ []
-notice_bytes (notice.PlatformOff c) = 7 ∷ states_of c
-notice_bytes (notice.PlatformSuspend c) = 8 ∷ states_of c
-notice_bytes (notice.PlatformPowerDown c) = 9 ∷ states_of c
-notice_bytes (notice.SuspendFinish c) = 10 ∷ states_of c
-notice_bytes (notice.OnFinish c) = 11 ∷ states_of c
+abbrev pub notice_bytes : Option Notice → List ℕ
+notice_bytes None = []
+notice_bytes (Some notice.SpmToldOff) = 1 ∷ []
+notice_bytes (Some (notice.SpmToldSuspend e)) = point_bytes 2 e
+notice_bytes (Some (notice.SpmToldSystemSuspend e)) = point_bytes 3 e
+notice_bytes (Some notice.SpmNotifiedOff) = 4 ∷ []
+notice_bytes (Some notice.SpmAbandon) = 5 ∷ []
+notice_bytes (Some (notice.CorePowerDown level)) = 6 ∷ level.0 ∷ []
+notice_bytes (Some (notice.PlatformOff c)) = 7 ∷ states_of c
+notice_bytes (Some (notice.PlatformSuspend c)) = 8 ∷ states_of c
+notice_bytes (Some (notice.PlatformPowerDown c)) = 9 ∷ states_of c
+notice_bytes (Some (notice.SuspendFinish c)) = 10 ∷ states_of c
+notice_bytes (Some (notice.OnFinish c)) = 11 ∷ states_of c
 
 -- the notices in order
-abbrev pub notice_at : Notices → ℕ → Notice
-notice_at n k = get_or (n.first ∷ n.second ∷ n.third ∷ n.fourth ∷ n.fifth ∷ []) k notice.Nothing
+abbrev pub notice_at : Notices → ℕ → Option Notice
+notice_at n k = get_or (n.first ∷ n.second ∷ n.third ∷ n.fourth ∷ n.fifth ∷ []) k None
 
 -- the code, whether a suspend was not entered, and which wake it was
 abbrev pub head_byte : CallAnswer → ℕ → ℕ

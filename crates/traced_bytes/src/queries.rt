@@ -6,7 +6,7 @@ ghost use Rattle.traced_bytes.specs.Queries.{state_byte, test_byte};
 use crate::out::flag_byte;
 use answers::code_byte;
 use model::board::NO_PARENT;
-use model::node::{Child, StateAnswer, TestAnswer};
+use model::code::Refusal;
 use model::sorts::{CpuNumber, DomainNumber, PowerLevel};
 use model::state::State;
 use node_query::get_osi_minimal_allowed_state_without_core;
@@ -15,24 +15,19 @@ use state_query::nodes::node_at;
 use state_query::{are_all_cpus_on, is_last_cpu, is_last_cpu_to_idle_at_power_level};
 use states::platform::off;
 
-fn test_byte(a: TestAnswer) -> u8
+fn test_byte(a: Result<bool, Refusal>) -> u8
     ensures { result ≡ test_byte a }
 {
-    let code = a.code;
-    if code.is_accepted() {
-        return flag_byte(a.holds);
-    }
-    code_byte(code)
+    state_byte(a.map(|holds| flag_byte(holds)))
 }
 
-fn state_byte(a: StateAnswer) -> u8
+fn state_byte(a: Result<u8, Refusal>) -> u8
     ensures { result ≡ state_byte a }
 {
-    let code = a.code;
-    if code.is_accepted() {
-        return a.state;
+    match a {
+        Ok(state) => state,
+        Err(refusal) => code_byte(Err(refusal)),
     }
-    code_byte(code)
 }
 
 pub fn all_on_byte(s: State) -> u8
@@ -60,7 +55,7 @@ pub fn last_to_idle_byte(s: State, c: u8, level: u8) -> u8
 }
 
 // What the record of a domain allows.
-fn asked_node(s: State, k: u8, c: u8, child: Child) -> u8
+fn asked_node(s: State, k: u8, c: u8, child: Option<DomainNumber>) -> u8
     ensures { result ≡ asked_node s k c child }
 {
     let domain = DomainNumber(k);
@@ -75,7 +70,7 @@ pub fn allowed_byte(s: State, k: u8, c: u8) -> u8
     ensures { result ≡ allowed_byte s k c }
 {
     if (k < s.tree.domain_count) & (c < s.tree.cpu_count) {
-        return asked_node(s, k, c, Child::Nothing);
+        return asked_node(s, k, c, None);
     }
     0
 }
@@ -95,7 +90,7 @@ pub fn beside_byte(s: State, k: u8, c: u8) -> u8
     if below(s, k) & (c < s.tree.cpu_count) {
         let tree = s.tree;
         let parent = parent_byte(&tree.parents, k);
-        return asked_node(s, parent, c, Child::Given(DomainNumber(k)));
+        return asked_node(s, parent, c, Some(DomainNumber(k)));
     }
     0
 }

@@ -7,7 +7,7 @@ ghost use Rattle.model.specs.Path.{set_running_of};
 use model::board::Tree;
 use model::sorts::{CpuNumber, DomainNumber, PowerLevel};
 use model::state::Domains;
-use paths::running::set_running;
+use paths::DomainRows;
 
 // The domains with `set_running` along the path of a CPU, whose first domain is given.
 pub fn running_domains(
@@ -19,24 +19,13 @@ pub fn running_domains(
 ) -> Domains
     ensures { result ≡ set_running_of tree.parents max.0 first.0 cpu.0 domains }
 {
-    let mut states = domains.states;
-    let mut requests = domains.requests;
-    let mut suspends = domains.suspends;
-    let mut copies = domains.copies;
-    set_running(
-        &tree.parents,
-        &mut states,
-        &mut requests,
-        &mut suspends,
-        &mut copies,
-        max,
-        first,
-        cpu,
-    );
-    Domains {
-        states,
-        requests,
-        suspends,
-        copies,
-    }
+    let mut made = domains;
+    let mut rows = DomainRows {
+        states: &mut made.states,
+        requests: &mut made.requests,
+        suspends: &mut made.suspends,
+        copies: &mut made.copies,
+    };
+    rows.set_running(&tree.parents, max, first, cpu);
+    made
 }

@@ -1,4 +1,4 @@
-use Rattle.std.proofs.Common.{sym, ◌∙◌}
+use Rattle.std.proofs.Common.{sym}
 use Rattle.script_laws.proofs.AnswerRecord.{onto_full, onto_room}
 use Rattle.answers.proofs.write_answer.Goals as goal
 
@@ -6,4 +6,5 @@ pub returns-then-out-lt-ANSWER-clause-out_after : goal.returns-then-out-lt-ANSWE
 returns-then-out-lt-ANSWER-clause-out_after c = sym (onto_full _ _ c.if-out-lt-ANSWER.true)
 
 pub returns-clause-out_after : goal.returns-clause-out_after
-returns-clause-out_after c = c.lay_answer.ensures ∙ sym (onto_room _ _ c.if-out-lt-ANSWER.false)
+returns-clause-out_after c =
+    rw (c.copy_from_slice.ensures.after, c.answer_record.ensures) (sym (onto_room _ _ c.if-out-lt-ANSWER.false))

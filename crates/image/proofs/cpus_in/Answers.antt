@@ -11,4 +11,4 @@ loop-c-init c =
 
 pub loop-c-preserved : goal.loop-c-preserved
 loop-c-preserved c =
-    filled_turn (λ (n : ℕ). cpu_in c.args.bytes.now (c.args.place + 20 * n)) (replicate cpu_limit no_cpu) c.loop-c.c c.loop-c.cpus _ c.cpu_in-node.result c.loop-c.invariant c.cpu_in-node.ensures refl
+    filled_turn (λ (n : ℕ). cpu_in c.args.bytes.now (c.args.place + 20 * n)) (replicate cpu_limit no_cpu) c.loop-c.c c.loop-c.cpu-items _ c.cpu_in.result c.loop-c.invariant c.cpu_in.ensures refl

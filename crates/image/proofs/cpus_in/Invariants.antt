@@ -6,4 +6,4 @@ use Rattle.model.specs.Table.{filled_of}
 use Rattle.image.proofs.cpus_in.Given as goal
 
 abbrev pub invariant-loop-c : goal.invariant-loop-c
-invariant-loop-c l = l.cpus ≡ filled_of (λ c. cpu_in l.bytes (l.place + 20 * c)) 0 l.c (replicate cpu_limit no_cpu)
+invariant-loop-c l = l.cpu-items ≡ filled_of (λ c. cpu_in l.bytes (l.place + 20 * c)) 0 l.c (replicate cpu_limit no_cpu)

@@ -1,4 +1,4 @@
-use Rattle.std.proofs.Common.{ℕ, ◌+◌, ◌≡◌, ◌∙◌, ap, get_or, List, replicate, arith}
+use Rattle.std.proofs.Common.{ℕ, ◌+◌, ◌≡◌, ◌∙◌, ap, get_or, List, replicate, arith, refl}
 use mathlib.Core.Path.{fun_ext}
 use Rattle.model.specs.Limits.{cpu_limit}
 use Rattle.model.specs.Table.{filled_of}
@@ -15,8 +15,8 @@ loop-i-init c = filled_none (past c.args.row.now c.place-from.result) 0 (replica
 
 pub loop-i-preserved : goal.loop-i-preserved
 loop-i-preserved c =
-    filled_turn (past c.args.row.now c.place-from.result) (replicate cpu_limit 0) c.loop-i.i c.loop-i.t _ c.at.result c.loop-i.invariant
-    c.at.ensures c.put.ensures
+    filled_turn (past c.args.row.now c.place-from.result) (replicate cpu_limit 0) c.loop-i.i c.loop-i.x-items _ c.at.result c.loop-i.invariant
+    c.at.ensures refl
 
 pub returns : goal.returns
 returns c =

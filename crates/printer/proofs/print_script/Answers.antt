@@ -1,4 +1,5 @@
-use Rattle.std.proofs.Common.{sym, ap, ◌∙◌, rules}
+use mathlib.Core.Bool.{not}
+use Rattle.std.proofs.Common.{ap, ◌∙◌, rules}
 use Rattle.script.specs.declared.run.Start.{Start}
 use Rattle.script_laws.proofs.Start.{start_within}
 use Rattle.printer.proofs.Printed.{printed_long, put_is, refused_by, run_by}
@@ -9,10 +10,10 @@ returns-then-input-gt-INPUT c =
     let w = put_is _ c.refused_line.ensures (printed_long _ c.if-input-gt-INPUT.true) in
     record { text_after = w.0; value = w.1.0; upper_bound = w.1.1 }
 
-pub returns-else-is_accepted : goal.returns-else-is_accepted
-returns-else-is_accepted c =
-    let refused = sym c.is_accepted.ensures ∙ c.if-is_accepted.false in
-    let w = put_is _ c.refused_line-else-is_accepted.ensures (refused_by _ c.start-begun.ensures c.if-input-gt-INPUT.false refused) in
+pub returns-then-is_err : goal.returns-then-is_err
+returns-then-is_err c =
+    let refused = c.is_err.ensures.negation ∙ ap not c.if-is_err.true in
+    let w = put_is _ c.refused_line-then-is_err.ensures (refused_by _ c.start-begun.ensures c.if-input-gt-INPUT.false refused) in
     record { text_after = w.0; value = w.1.0; upper_bound = w.1.1 }
 
 pub slice_bounds-print_run-count : goal.slice_bounds-print_run-count
@@ -26,6 +27,6 @@ slice_bounds-print_run-start c =
 
 pub returns : goal.returns
 returns c =
-    let accepted = sym c.is_accepted.ensures ∙ c.if-is_accepted.true in
+    let accepted = c.is_err.ensures.negation ∙ ap not c.if-is_err.false in
     let w = put_is _ c.print_run.ensures (run_by _ c.start-begun.ensures c.if-input-gt-INPUT.false accepted) in
     record { text_after = w.0; value = w.1.0; upper_bound = w.1.1 }

@@ -9,15 +9,15 @@ use Rattle.script_run.proofs.Read.{read_none}
 use Rattle.script_run.proofs.run_rows.Goals as goal
 
 -- 112
-pub returns-then-budget-events : goal.returns-then-budget-events
-returns-then-budget-events c =
+pub returns-then-budget-events-clause-value : goal.returns-then-budget-events-clause-value
+returns-then-budget-events-clause-value c =
     let l = c.loop-at in
     reached_end _ _ _ l.invariant.2 l.invariant.1
     (run_spent _ _ _ _ _ (some_left _ _ c.loop-at-test.true) c.if-budget-events.true)
 
 -- 108
-pub returns-in_default : goal.returns-in_default
-returns-in_default c =
+pub returns-in_default-clause-value : goal.returns-in_default-clause-value
+returns-in_default-clause-value c =
     let l = c.loop-at in
     let g = read_left _ l.at c.args.input.now c.read_record.ensures in
     let m : c.read_record.result ≡ read.Malformed =
@@ -34,8 +34,8 @@ overflow_add-next c =
     search rules
 
 -- 110
-pub returns-then-out-written-lt-ANSWER : goal.returns-then-out-written-lt-ANSWER
-returns-then-out-written-lt-ANSWER c =
+pub returns-then-out-written-lt-ANSWER-clause-value : goal.returns-then-out-written-lt-ANSWER-clause-value
+returns-then-out-written-lt-ANSWER-clause-value c =
     let l = c.loop-at in
     let g = read_left _ l.at c.args.input.now c.in-Event.ensures in
     reached_end _ _ _ l.invariant.2 l.invariant.1
@@ -48,16 +48,18 @@ loop-at-preserved c =
     let g = read_left _ l.at c.args.input.now c.in-Event.ensures in
     let w = l.invariant.1 in
     let b = c.if-budget-events.false in
-    let x = c.event-done.ensures in (
+    let x = c.event-done.ensures.value in (
       omega (arith, b),
       omega (arith, w),
       reached_step _ _ _ _ _ _ _ _ _ l.invariant.2 b g c.if-out-written-lt-ANSWER.false
           (carried_answer _ l.invariant.3 x) c.write_answer.ensures.out_after,
       carried_next _ l.invariant.3 x,
+      search rules,
+      search rules,
     )
 
 -- the clean end
-pub returns : goal.returns
-returns c =
+pub returns-clause-value : goal.returns-clause-value
+returns-clause-value c =
     let l = c.loop-at in
     reached_end _ _ _ l.invariant.2 l.invariant.1 (run_end _ _ _ _ _ (none_left l.at c.args.input.now (omega arith)))

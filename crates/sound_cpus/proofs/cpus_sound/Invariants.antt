@@ -5,4 +5,4 @@ use Rattle.sound_cpus.proofs.cpus_sound.Given as goal
 
 -- the slots passed are as they must be
 abbrev pub invariant-loop-i : goal.invariant-loop-i
-invariant-loop-i l = l.sound ≡ every l.i (cpu_slotb l.p l.count l.cpus l.parents l.domains)
+invariant-loop-i l = l.sound ≡ every l.i (cpu_slotb l.p l.count l.fn.cpus l.parents l.domains)

@@ -2,7 +2,7 @@
 use Rattle.std.proofs.Common.{sym, ◌∙◌}
 use Rattle.board_calls.proofs.kept.keep.Goals as goal
 
-pub returns-then-is_accepted-clause-by_index : goal.returns-then-is_accepted-clause-by_index
-returns-then-is_accepted-clause-by_index c =
-    let h = sym c.is_accepted.ensures ∙ c.if-is_accepted.true in
-    λ firsts. simp h (c.store_cpu.ensures firsts)
+pub returns-then-is_ok-clause-rows : goal.returns-then-is_ok-clause-rows
+returns-then-is_ok-clause-rows c =
+    let h = sym c.is_ok.ensures.value ∙ c.if-is_ok.true in
+    simp h c.store_cpu.ensures.rows

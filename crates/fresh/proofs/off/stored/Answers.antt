@@ -1,4 +1,4 @@
-use Rattle.std.proofs.Common.{ℕ, List, get_or, replicate}
+use Rattle.std.proofs.Common.{ℕ, List, get_or, refl, replicate}
 use Rattle.model.proofs.Tables.{filled_none, filled_turn}
 use Rattle.model.specs.Limits.{entry_limit}
 use Rattle.fresh.proofs.off.stored.Goals as goal
@@ -11,5 +11,5 @@ loop-i-init c = filled_none (entry c.args.topology.now) 0 (replicate entry_limit
 
 pub loop-i-preserved : goal.loop-i-preserved
 loop-i-preserved c =
-    filled_turn (entry c.args.topology.now) (replicate entry_limit 0) c.loop-i.i c.loop-i.row c.put.new.row c.at.result
-    c.loop-i.invariant c.at.ensures c.put.ensures
+    filled_turn (entry c.args.topology.now) (replicate entry_limit 0) c.loop-i.i c.loop-i.row c.put.new.row _
+    c.loop-i.invariant refl c.put.ensures

@@ -1,16 +1,11 @@
--- What is decided of the record and the domains.
-use Rattle.std.proofs.Common.{sym, ◌∙◌}
-use Rattle.in_place.proofs.Decided.{done_on, parts, refused_on}
+use Rattle.std.proofs.Common.{refl, sym}
+use Rattle.model.specs.Steps.{boot_step}
+use Rattle.paths.specs.Rows.{lent_domains}
 use Rattle.in_place.proofs.Handed.{boot_states}
 use Rattle.in_place.proofs.wake.handle_cpu_boot.Goals as goal
 
-pub returns-then-is_accepted : goal.returns-then-is_accepted
-returns-then-is_accepted c =
-    done_on _ (c.for_cpu-code.ensures ∙ rw c.boot_code.ensures) c.is_accepted.ensures
-    _ _ _ c.if-is_accepted.true
-    (parts c.booted.ensures (c.local_states_from_nodes-along.ensures ∙ sym (boot_states _ c.args.node)) c.set_running.ensures)
-
-pub returns : goal.returns
-returns c =
-    refused_on _ (c.for_cpu-code.ensures ∙ rw c.boot_code.ensures) c.is_accepted.ensures
-    _ _ _ c.if-is_accepted.false c.all_run.ensures
+pub returns-clause-value : goal.returns-clause-value
+returns-clause-value c =
+    let a = c.args in
+    let step = boot_step a.tree (lent_domains a.rows.now) a.p a.cpu.0 a.node in
+    rw (c.wake.ensures.value step (sym c.booted.ensures) (boot_states _ a.node) refl, c.for_cpu-code.ensures, c.boot_code.ensures)
