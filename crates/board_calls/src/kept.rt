@@ -84,22 +84,19 @@ pub fn keep(cpus: &mut CpuTable, cpu: CpuNumber, done: Stepped) -> i32
     ensures value { result ≡ number_of done.code }
     ensures rows { lent_cpus cpus.new ≡ record_kept (lent_cpus cpus.old) cpu.0 done }
 {
-    let code = done.code;
-    let node = done.node;
-    if code.is_ok() {
-        cpus.store_cpu(cpu, node);
+    if done.code.is_ok() {
+        cpus.store_cpu(cpu, done.node);
         return 0;
     }
-    number(code)
+    number(done.code)
 }
 
 // If it is accepted, the states go out.
 pub fn hand(handed: &mut [u8; LEVELS], done: Stepped)
     ensures { handed.new ≡ states_kept handed.old done }
 {
-    let code = done.code;
     let states = done.states;
-    if code.is_ok() {
+    if done.code.is_ok() {
         *handed = [states.level0, states.level1, states.level2, states.level3];
         return;
     }

@@ -45,7 +45,7 @@ pub fn psci_cpu_on(
     keep(cpus, target, done)
 }
 
-// PSCI_SET_SUSPEND_MODE: sets who coordinates the power states, 0 the platform, 1 the OS.
+// PSCI_SET_SUSPEND_MODE: sets who coordinates the power states, 0 the platform, 1 the OS. The mode is a byte, as C hands it over.
 pub fn psci_set_suspend_mode(
     board: &mut [u8; BOARD],
     cpus: CpuView,

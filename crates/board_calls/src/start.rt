@@ -24,8 +24,7 @@ fn fill_board(board: &mut [u8; BOARD], p: Platform, count: u8)
     *board = [p.max.0, p.states, p.down, count, 0];
 }
 
-// The rows of the tree. Three by themselves, as a `BoardView` lends them to be read. Each array goes through a name: the borrow checker
-// covers no field that is stored straight.
+// The rows of the tree. Three by themselves, as a `BoardView` lends them to be read.
 fn fill_tree(
     parents: &mut [u8; DOMAINS],
     starts: &mut [u8; DOMAINS],
@@ -36,11 +35,14 @@ fn fill_tree(
     ensures starts_after { starts.new ≡ tree.cpu_starts }
     ensures ends_after { ends.new ≡ tree.cpu_ends }
 {
-    let above = tree.parents;
+    let Tree {
+        parents: above,
+        cpu_starts: from,
+        cpu_ends: to,
+        ..
+    } = tree;
     *parents = above;
-    let from = tree.cpu_starts;
     *starts = from;
-    let to = tree.cpu_ends;
     *ends = to;
 }
 
@@ -74,17 +76,19 @@ fn fill_cpus(
     ensures { cpu_table firsts.new affinities.new locals.new helds.new addresses.new
         contexts.new ≡ rows }
 {
-    let own_firsts = rows.firsts;
+    let CpuRows {
+        firsts: own_firsts,
+        affinities: own_affinities,
+        locals: own_locals,
+        helds: own_helds,
+        addresses: own_addresses,
+        contexts: own_contexts,
+    } = rows;
     *firsts = own_firsts;
-    let own_affinities = rows.affinities;
     *affinities = own_affinities;
-    let own_locals = rows.locals;
     *locals = own_locals;
-    let own_helds = rows.helds;
     *helds = own_helds;
-    let own_addresses = rows.addresses;
     *addresses = own_addresses;
-    let own_contexts = rows.contexts;
     *contexts = own_contexts;
 }
 
@@ -115,20 +119,21 @@ pub fn psci_start(
         (fresh_of p primary topology.now) }
 {
     let made = fresh(p, primary, topology);
-    let code = made.code;
-    if code.is_ok() {
+    if made.code.is_ok() {
         let s = made.state;
-        let tree = s.tree;
-        let cpus = s.cpus;
-        let table = rows_of(cpus);
-        let domains = s.domains;
-        fill_board(board, s.board.platform, tree.cpu_count);
-        fill_tree(parents, starts, ends, tree);
-        fill_domains(rows, domains);
+        fill_board(board, s.board.platform, s.tree.cpu_count);
+        fill_tree(parents, starts, ends, s.tree);
+        fill_domains(rows, s.domains);
         fill_cpus(
-            firsts, affinities, locals, helds, addresses, contexts, table,
+            firsts,
+            affinities,
+            locals,
+            helds,
+            addresses,
+            contexts,
+            rows_of(s.cpus),
         );
         return 0;
     }
-    number(code)
+    number(made.code)
 }

@@ -10,6 +10,7 @@ use model::state::{State, SuspendMode};
 use rows::cells::at;
 use soundness::sound;
 
+// Each program builds its own bench board: the programs share no crate that it would fit, and each prints its own.
 fn bench() -> State {
     fresh(platform(2, 4, 2), CpuNumber(0), &[1, 2, 2, 2]).state
 }

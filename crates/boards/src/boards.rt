@@ -9,8 +9,10 @@ use soundness::sound;
 // Does the board start, in a sound state, with these counts?
 fn starts(board: Board, cpus: u8, domains: u8) -> bool {
     let a = fresh(platform(board.max, 4, 2), CpuNumber(0), board.topology);
-    let tree = a.state.tree;
-    a.code.is_ok() && tree.cpu_count == cpus && tree.domain_count == domains && sound(a.state)
+    a.code.is_ok()
+        && a.state.tree.cpu_count == cpus
+        && a.state.tree.domain_count == domains
+        && sound(a.state)
 }
 
 // Says the counts of a board.

@@ -32,10 +32,9 @@ pub fn turn_off(
     ensures { result ≡ off_step tree domains p cpu.0 node }
 {
     let low = lowered(tree, domains, off(p), node.parent, cpu, p.max, all_off(p));
-    let made = low.domains;
     Step {
         node: turned_off(p, node),
-        domains: made,
+        domains: low.domains,
         out: off_out(p, low.resolved),
     }
 }
@@ -55,10 +54,9 @@ pub fn enter(
 {
     let upto = level_found(find_highest_non_run_level(p, asked));
     let low = lowered(tree, domains, off(p), node.parent, cpu, upto, asked);
-    let made = low.domains;
     Step {
         node: suspended(p, node, low.resolved, entry),
-        domains: made,
+        domains: low.domains,
         out: suspend_out(p, low.resolved, told),
     }
 }

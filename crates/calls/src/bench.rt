@@ -6,6 +6,7 @@ use model::sorts::{CpuNumber, PowerLevel};
 use model::states::{CompositeState, Platform};
 use psci::Psci;
 
+// Each program builds its own bench board: the programs share no crate that it would fit, and each prints its own.
 pub(super) fn start() -> Psci {
     let platform = Platform {
         max: PowerLevel(2),
@@ -18,8 +19,7 @@ pub(super) fn start() -> Psci {
 
 // What the next call is made on.
 pub(super) fn next(a: CallAnswer) -> Psci {
-    let state = a.state;
-    Psci { state }
+    Psci { state: a.state }
 }
 
 pub(super) fn entry() -> EntryPoint {

@@ -11,8 +11,7 @@ use model::cpu::CpuPowerNode;
 pub fn is_running(node: CpuPowerNode) -> bool
     ensures { result ≡ runningb node }
 {
-    let a = node.affinity_info;
-    is_on(a) & (node.local_state == 0)
+    is_on(node.affinity_info) & (node.local_state == 0)
 }
 
 // After 102 every call first: 103, and then what the further checks give.

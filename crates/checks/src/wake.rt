@@ -12,8 +12,7 @@ use model::states::Platform;
 pub fn finish_code(node: CpuPowerNode) -> Result<(), Refusal>
     ensures { result ≡ finish_code node }
 {
-    let a = node.affinity_info;
-    let due = is_on(a) & (node.local_state != 0);
+    let due = is_on(node.affinity_info) & (node.local_state != 0);
     if !due {
         return Err(Refusal::NotDue);
     }
@@ -24,8 +23,7 @@ pub fn finish_code(node: CpuPowerNode) -> Result<(), Refusal>
 pub fn boot_code(p: Platform, node: CpuPowerNode) -> Result<(), Refusal>
     ensures { result ≡ boot_code p node }
 {
-    let a = node.affinity_info;
-    if !entry_due(p, a, node.local_state) {
+    if !entry_due(p, node.affinity_info, node.local_state) {
         return Err(Refusal::NotDue);
     }
     Ok(())

@@ -73,11 +73,10 @@ pub fn coordinate_state(
         ≡ coordinate_of tree off first.0 cpu.0 upto.0
         (coordinated states.old requests.old copies.old asked) }
 {
-    let top = upto.0;
     let mut v = asked;
     let mut d = first.0;
     // a number: the level below
-    for below in 0..top {
+    for below in 0..upto.0 {
         let level = below + 1;
         let wanted = state_at(v, PowerLevel(level));
         let under = state_at(v, PowerLevel(below));
@@ -85,7 +84,7 @@ pub fn coordinate_state(
         let x = coordinate_level(
             &tree, states, requests, off, cpu.0, d, level, wanted, run_below,
         );
-        put_if(copies, level < top, d as usize, x);
+        put_if(copies, level < upto.0, d as usize, x);
         v = set_state_at(v, PowerLevel(level), x);
         d = parent_byte(&tree.parents, d);
     }

@@ -108,11 +108,9 @@ impl CpuTable<'_> {
         ensures rows { lent_cpus self.new ≡ stored_in (lent_cpus self.old) cpu.0 node }
     {
         let c = cpu.0 as usize;
-        let affinity = node.affinity_info;
-        let entry = node.entry_point;
-        put(self.affinities, c, affinity_byte(affinity));
+        put(self.affinities, c, affinity_byte(node.affinity_info));
         put(self.locals, c, node.local_state);
-        put(self.helds, c, held_byte(entry));
-        keep_entry(self.addresses, self.contexts, c, entry);
+        put(self.helds, c, held_byte(node.entry_point));
+        keep_entry(self.addresses, self.contexts, c, node.entry_point);
     }
 }

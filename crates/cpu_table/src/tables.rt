@@ -34,14 +34,12 @@ pub fn rows_of(cpus: [CpuPowerNode; CPUS]) -> CpuRows
     let mut addresses = [0; CPUS];
     let mut contexts = [0; CPUS];
     for (c, node) in cpus.iter().enumerate() {
-        let affinity = node.affinity_info;
-        let entry = node.entry_point;
         firsts[c] = node.parent.0;
-        affinities[c] = affinity_byte(affinity);
+        affinities[c] = affinity_byte(node.affinity_info);
         locals[c] = node.local_state;
-        helds[c] = held_byte(entry);
-        addresses[c] = address_in(entry);
-        contexts[c] = context_in(entry);
+        helds[c] = held_byte(node.entry_point);
+        addresses[c] = address_in(node.entry_point);
+        contexts[c] = context_in(node.entry_point);
     }
     CpuRows {
         firsts,

@@ -22,16 +22,14 @@ fn is_off(a: AffinityInfo) -> bool
 fn off_but(node: CpuPowerNode, c: usize, cpu: usize) -> bool
     ensures { result ≡ (eqb c cpu || offb node.affinity_info) }
 {
-    let a = node.affinity_info;
-    (c == cpu) | is_off(a)
+    (c == cpu) | is_off(node.affinity_info)
 }
 
 // Is the CPU On?
 fn on(node: CpuPowerNode) -> bool
     ensures { result ≡ onb node.affinity_info }
 {
-    let a = node.affinity_info;
-    is_on(a)
+    is_on(node.affinity_info)
 }
 
 // The record at a place; past the row's end it is that of no CPU.

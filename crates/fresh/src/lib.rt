@@ -38,8 +38,7 @@ fn all_off(
     let states = off::states_off(tree.domain_count, off);
     let requests = levels_filled(off, tree.cpu_count, p.max);
     let suspends = levels_filled(NO_SUSPEND_STATE, tree.cpu_count, p.max);
-    let above = tree.parents;
-    let copies = off::copies_off(above, tree.domain_count, off);
+    let copies = off::copies_off(tree.parents, tree.domain_count, off);
     let board = Board {
         platform: p,
         primary,
@@ -64,12 +63,10 @@ fn all_off(
 fn bring_up(s: State, cpu: CpuNumber) -> State
     ensures { result ≡ brought_up s cpu.0 }
 {
-    let table = s.cpus;
-    let node = cpu_in(table, cpu);
+    let node = cpu_in(s.cpus, cpu);
     let running = set_local_state(set_affinity_info(node, AffinityInfo::On), 0);
-    let cpus = with_cpu_record(table, cpu, running);
-    let rows = s.domains;
-    let domains = running_domains(s.tree, rows, s.board.platform.max, running.parent, cpu);
+    let cpus = with_cpu_record(s.cpus, cpu, running);
+    let domains = running_domains(s.tree, s.domains, s.board.platform.max, running.parent, cpu);
     State { cpus, domains, ..s }
 }
 
@@ -109,11 +106,8 @@ pub fn fresh(platform: Platform, primary: CpuNumber, topology: &[u8]) -> FreshAn
     ensures { result ≡ fresh_of platform primary topology.now }
 {
     let made = power_domain_tree(platform, primary, topology);
-    let code = made.code;
-    if code.is_ok() {
-        let tree = made.tree;
-        let parents = made.cpu_parents;
-        let s = all_off(platform, primary, topology, tree, parents);
+    if made.code.is_ok() {
+        let s = all_off(platform, primary, topology, made.tree, made.cpu_parents);
         let state = bring_up(s, primary);
         return FreshAnswer {
             code: Ok(()),

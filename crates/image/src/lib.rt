@@ -18,7 +18,8 @@ use model::states::Platform;
 use numbers::read_u64;
 use rows::cells::at;
 
-// Fills a row from the bytes at a place on.
+// Fills a row from the bytes at a place on, up to the row's length, where `stored` of `fresh` goes up to that of its source: no one
+// function is plainer.
 fn fill<'a>(row: &'a mut [u8], bytes: &'a [u8], place: u16)
     requires { length row.old ≤ request_slots }
     ensures { row.new
@@ -50,7 +51,7 @@ pub fn affinity_in(byte: u8) -> AffinityInfo
     }
 }
 
-// The mode that a byte stands for.
+// The mode that a byte of the C row stands for: no `From`, for the type is of `model`, and `From` would have to stand there.
 pub fn mode_in(byte: u8) -> SuspendMode
     ensures { result ≡ mode_in byte }
 {
@@ -60,7 +61,7 @@ pub fn mode_in(byte: u8) -> SuspendMode
     }
 }
 
-// The entry that three numbers stand for.
+// The entry that three numbers of the C row stand for: no `From`, for the reason at `mode_in`.
 pub fn entry_in(held: u8, address: u64, context: u64) -> Option<EntryPoint>
     ensures { result ≡ entry_in held address context }
 {

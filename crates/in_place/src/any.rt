@@ -61,10 +61,18 @@ pub fn call(
     ensures value { with_domains result (lent_domains rows.new)
         ≡ call_in tree p mode affinities.now by node (lent_domains rows.old) call }
 {
-    let count = tree.cpu_count;
     match call {
         Call::On(caller, target, entry, address_good, answer) => {
-            let x = cpu_on(count, caller, by, target, node, entry, address_good, answer);
+            let x = cpu_on(
+                tree.cpu_count,
+                caller,
+                by,
+                target,
+                node,
+                entry,
+                address_good,
+                answer,
+            );
             in_mode(mode, x)
         }
         Call::Off(caller, early_answer) => {
@@ -77,7 +85,7 @@ pub fn call(
         Call::Finish(cpu) => in_mode(mode, cpu_suspend_finish(tree, rows, p, cpu, node)),
         Call::Boot(cpu) => in_mode(mode, handle_cpu_boot(tree, rows, p, cpu, node)),
         Call::SystemSuspend(caller, feature, pending, address_good, entry, asked) => {
-            let last = others_off(affinities, count, caller.0);
+            let last = others_off(affinities, tree.cpu_count, caller.0);
             let x = system_suspend(
                 tree,
                 rows,
@@ -95,9 +103,18 @@ pub fn call(
             in_mode(mode, x)
         }
         Call::SetMode(caller, feature, wanted) => {
-            let last = others_off(affinities, count, caller.0);
-            let all = all_on(affinities, count);
-            let code = set_suspend_mode(count, caller, by, last, all, mode, feature, wanted);
+            let last = others_off(affinities, tree.cpu_count, caller.0);
+            let all = all_on(affinities, tree.cpu_count);
+            let code = set_suspend_mode(
+                tree.cpu_count,
+                caller,
+                by,
+                last,
+                all,
+                mode,
+                feature,
+                wanted,
+            );
             Moved {
                 code,
                 node,

@@ -36,17 +36,15 @@ pub fn cpu_off(
 {
     let code = for_caller(caller.0 < tree.cpu_count, node, of_answer(early_answer));
     if code.is_ok() {
-        let first = node.parent;
-        let max = p.max;
         let resolved = coordinate_state(
             tree,
             rows.states,
             rows.requests,
             rows.copies,
             off(p),
-            first,
+            node.parent,
             caller,
-            max,
+            p.max,
             all_off(p),
         );
         return Stepped {
@@ -77,14 +75,13 @@ fn enter(
         ≡ entered_in tree p caller.0 node (lent_domains rows.old) asked entry }
 {
     let upto = level_found(find_highest_non_run_level(p, asked));
-    let first = node.parent;
     let resolved = coordinate_state(
         tree,
         rows.states,
         rows.requests,
         rows.copies,
         off(p),
-        first,
+        node.parent,
         caller,
         upto,
         asked,

@@ -26,8 +26,7 @@ pub fn cpu_on(
 ) -> Stepped
     ensures { result ≡ on_in count caller.0 by target.0 node entry address_good answer }
 {
-    let affinity = node.affinity_info;
-    let own = on_code(answer, target.0 < count, address_good, affinity);
+    let own = on_code(answer, target.0 < count, address_good, node.affinity_info);
     let code = for_caller(caller.0 < count, by, own);
     if code.is_ok() {
         return Stepped {

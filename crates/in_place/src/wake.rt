@@ -35,11 +35,9 @@ fn wake(
         → outcome result (lent_domains rows.new) ≡ decided_on code node (lent_domains rows.old) x }
 {
     if code.is_ok() {
-        let first = node.parent;
-        let max = p.max;
         let states = &*rows.states;
-        let along = local_states_from_nodes(&tree.parents, states, max, node);
-        rows.set_running(&tree.parents, max, first, cpu);
+        let along = local_states_from_nodes(&tree.parents, states, p.max, node);
+        rows.set_running(&tree.parents, p.max, node.parent, cpu);
         return Stepped {
             code: Ok(()),
             node: awake,

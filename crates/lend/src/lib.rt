@@ -10,6 +10,7 @@ pub mod lender_with;
 pub mod lent;
 pub mod lent_ask;
 pub mod set;
+pub mod table;
 
 #[cfg(test)]
 mod tests {
@@ -22,6 +23,7 @@ mod tests {
     use crate::lent::lent;
     use crate::lent_ask::lent_ask;
     use crate::set::set;
+    use crate::table::table;
 
     #[derive(Clone, Copy)]
     struct Node {
@@ -76,6 +78,13 @@ mod tests {
         every_with(row, n, but, node_at, idle_but)
     }
 
+    fn numbered(k: u8) -> Node {
+        Node {
+            parent: k,
+            state: 0,
+        }
+    }
+
     // each shape at one record, or at a row of two, the second of which is not idle
     #[test]
     fn each_shape_at_a_record(rt: HostRuntime) {
@@ -102,5 +111,9 @@ mod tests {
         assert!(rt; !lender(row, 2, all_idle));
         assert!(rt; lender_with(row, 2, 1, others_idle));
         assert!(rt; !lender_with(row, 2, 0, others_idle));
+        let filled: [Node; 3] = table(node, 2, numbered);
+        assert_eq!(rt; filled[0].parent, 0);
+        assert_eq!(rt; filled[1].parent, 1);
+        assert_eq!(rt; filled[2].state, 7);
     }
 }

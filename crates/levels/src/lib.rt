@@ -74,7 +74,8 @@ pub fn fill(row: &mut [u8], start: usize, n: u8, v: u8)
     row[from..from + count].fill(v);
 }
 
-// A table by level and CPU that holds a byte for so many CPUs at levels 1 to max.
+// A table by level and CPU that holds a byte for so many CPUs at levels 1 to max. With more CPUs than a level's part holds, its
+// definition goes on into the next level's part, as `chunks_mut` would not.
 #[tactic(auto, using(crate::proofs::Filled::levels_none, crate::proofs::Filled::levels_next))]
 pub fn levels_filled(v: u8, cpus: u8, max: PowerLevel) -> [u8; REQUESTS]
     ensures { result ≡ levels_filled_of v cpus max.0 }

@@ -70,8 +70,8 @@ pub struct Step {
     pub out: Outgoing,
 }
 
-// What a call answers. Beside a refusal stands the state as it was handed in, and nothing goes out. No Result: the theorems
-// `call_keeps` and `off_handed` name the state and what goes out beside the code, of refusals too.
+// What a call answers. Beside a refusal stands the state as it was handed in, and nothing goes out. No Result: the theorem
+// `call_keeps` names the state beside the code, of refusals too, and `off_handed` what goes out beside it.
 #[derive(Clone, Copy)]
 pub struct CallAnswer {
     pub code: Result<(), Refusal>,

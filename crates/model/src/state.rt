@@ -33,8 +33,8 @@ pub struct State {
     pub mode: SuspendMode,
 }
 
-// What a start answers: beside a refusal stands a state of zeros, which is not sound. No Result: the theorems `reached` and
-// `board_demand_3` name the state beside the code.
+// What a start answers: beside a refusal stands a state of zeros, which is not sound. No Result: the definition `fresh_of`,
+// under the theorem `reached`, has the state beside the code, of a refusal too.
 #[derive(Clone, Copy)]
 pub struct FreshAnswer {
     pub code: Result<(), Refusal>,

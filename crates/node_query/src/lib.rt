@@ -71,10 +71,9 @@ fn copies_without(node: NonCpuPowerNode, span: Span, one: DomainNumber, state: u
 fn with_children(node: NonCpuPowerNode, child: Option<DomainNumber>, state: u8) -> u8
     ensures { result ≡ with_children_of node child state }
 {
-    let children = node.non_cpu_range;
     match child {
         None => { copies_without(node, Span { start: 0, end: 0 }, DomainNumber(0), state) }
-        Some(d) => copies_without(node, children, d, state),
+        Some(d) => copies_without(node, node.non_cpu_range, d, state),
     }
 }
 

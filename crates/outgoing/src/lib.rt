@@ -132,9 +132,7 @@ pub fn finish_out(p: Platform, x: CompositeState) -> Outgoing
 pub fn boot_out(node: CpuPowerNode, x: CompositeState) -> Outgoing
     ensures { result ≡ boot_out node x }
 {
-    let affinity = node.affinity_info;
-    let entry = node.entry_point;
-    if is_pending(affinity) {
+    if is_pending(node.affinity_info) {
         let notices = Notices {
             first: Some(Notice::OnFinish(x)),
             ..no_notices()
@@ -144,7 +142,7 @@ pub fn boot_out(node: CpuPowerNode, x: CompositeState) -> Outgoing
             notices,
             not_entered: false,
             wake: Some(WakeUpReason::CpuOn),
-            entry,
+            entry: node.entry_point,
         };
     }
     let notices = Notices {
@@ -156,6 +154,6 @@ pub fn boot_out(node: CpuPowerNode, x: CompositeState) -> Outgoing
         notices,
         not_entered: false,
         wake: Some(WakeUpReason::SuspendFinished),
-        entry,
+        entry: node.entry_point,
     }
 }

@@ -27,9 +27,13 @@ fn print_run<'a>(events: &'a [u8], text: &'a mut [u8], state: State) -> usize
 {
     let mut answers = answer_room();
     let ran = run(events, &mut answers, state, EVENTS);
-    let closing = ran.closing;
-    let written = ran.written;
-    run_text(text, state, &answers[..written], ran.events, closing)
+    run_text(
+        text,
+        state,
+        &answers[..ran.written],
+        ran.events,
+        ran.closing,
+    )
 }
 
 // Puts what is printed for an input at the front of the text, and gives its length back. No String: there is no heap.
@@ -42,11 +46,8 @@ pub fn print_script<'a>(input: &'a [u8], text: &'a mut [u8]) -> usize
         return refused_line(text, Err(Refusal::NoRoom));
     }
     let begun = start(input);
-    let code = begun.code;
-    if code.is_err() {
-        return refused_line(text, code);
+    if begun.code.is_err() {
+        return refused_line(text, begun.code);
     }
-    let state = begun.state;
-    let next = begun.next;
-    print_run(&input[next..], text, state)
+    print_run(&input[begun.next..], text, begun.state)
 }

@@ -86,7 +86,7 @@ fn zero_at(max: PowerLevel, level: PowerLevel, state: u8) -> bool
     (level.0 <= max.0) | (state == 0)
 }
 
-// Are the states above MAX 0?
+// Are the states above MAX 0? The four levels are written out, as `every` unfolds to them.
 #[tactic(auto, unfolding(model::specs::Below::every))]
 pub fn zero_above(max: PowerLevel, c: CompositeState) -> bool
     ensures { result ≡ zero_aboveb max.0 c }

@@ -21,9 +21,8 @@ pub(super) fn is(case: Case, input: &[u8], out: &mut [u8], length: usize) -> boo
         return false;
     }
     let s = start(input);
-    let code = s.code;
-    if code.is_err() {
-        return closes(case, code, 0, code) && length == 0;
+    if s.code.is_err() {
+        return closes(case, s.code, 0, s.code) && length == 0;
     }
     if input.len() < s.next {
         return false;
@@ -34,5 +33,5 @@ pub(super) fn is(case: Case, input: &[u8], out: &mut [u8], length: usize) -> boo
         s.state,
         case.budget,
     );
-    closes(case, code, a.events, a.closing) && a.written == length
+    closes(case, s.code, a.events, a.closing) && a.written == length
 }

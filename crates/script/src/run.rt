@@ -2,8 +2,8 @@ use model::code::Refusal;
 use model::state::State;
 use model::states::CompositeState;
 
-// The start of a script: beside a refusal stands a state of zeros. No Result: the theorems `board_fresh` and `bytes_demand_3` name
-// the state beside the code.
+// The start of a script: beside a refusal stands a state of zeros. No Result: the definition `start_with`,
+// under the theorem `bytes_demand_3`, has the state beside the code, of a refusal too.
 #[derive(Drop)]
 pub struct Start {
     pub code: Result<(), Refusal>,

@@ -24,14 +24,11 @@ pub fn psci_script(
         ≡ out_after out.old (script_of budget (length out.old) board.now events.now) }
 {
     let begun = start(board);
-    let code = begun.code;
-    let state = begun.state;
-    if code.is_ok() {
-        let done = run(events, out, state, budget);
-        let closing = done.closing;
+    if begun.code.is_ok() {
+        let done = run(events, out, begun.state, budget);
         *taken = [done.events];
-        return number(closing);
+        return number(done.closing);
     }
     *taken = [0];
-    number(code)
+    number(begun.code)
 }

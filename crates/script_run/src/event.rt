@@ -77,16 +77,13 @@ pub(super) fn event(
         let by = cpus.cpu_in(caller(event));
         let affinities = &*cpus.affinities;
         let done = call(tree, rows, affinities, p, mode, by, node, event);
-        let code = done.code;
-        let next = done.node;
-        let after = done.mode;
-        cpus.store_cpu(cpu, next);
+        cpus.store_cpu(cpu, done.node);
         let left = cpus.cpu_in(cpu);
         let states = &*rows.states;
         return EventStep {
-            code,
+            code: done.code,
             shown: shown_states(&tree.parents, states, count, max, cpu, left),
-            mode: after,
+            mode: done.mode,
         };
     }
     let states = &*rows.states;

@@ -49,9 +49,11 @@ pub fn start(input: &[u8]) -> Start
         };
     };
     let made = fresh(platform, primary, &input[TOPOLOGY..next]);
-    let code = made.code;
-    let state = made.state;
-    Start { code, next, state }
+    Start {
+        code: made.code,
+        next,
+        state: made.state,
+    }
 }
 
 // An array that is handed over has its type's length; of a field nothing says so. Nothing is done.
@@ -70,13 +72,14 @@ fn have_lengths(
 fn sound_at_start(state: State) -> bool
     ensures { (result ≡ soundb state) × Lengths state }
 {
-    let cpus = state.cpus;
     let domains = state.domains;
-    let states = domains.states;
-    let requests = domains.requests;
-    let suspends = domains.suspends;
-    let copies = domains.copies;
-    have_lengths(cpus, states, requests, suspends, copies);
+    have_lengths(
+        state.cpus,
+        domains.states,
+        domains.requests,
+        domains.suspends,
+        domains.copies,
+    );
     sound(state)
 }
 
@@ -111,7 +114,6 @@ fn run_rows(
         × (out.new ≡ out_after out.old (run_of budget (length out.old) input.now 0
         (state_in board tree (lent_cpus cpus.old) (lent_domains rows.old) start))) }
 {
-    let max = board.platform.max;
     let mut at = 0usize;
     let mut events = 0u32;
     let mut written = 0usize;
@@ -125,7 +127,7 @@ fn run_rows(
                 mode,
             };
         }
-        let Read::Event(call, size) = read_record(&input[at..], max) else {
+        let Read::Event(call, size) = read_record(&input[at..], board.platform.max) else {
             return Ran {
                 events,
                 closing: Err(Refusal::Malformed),
@@ -145,11 +147,9 @@ fn run_rows(
         let number = events + 1;
         let end = written + ANSWER;
         let done = event(known, board, tree, mode, rows, cpus, call);
-        let code = done.code;
-        let shown = done.shown;
         mode = done.mode;
         // there is room, as is tested above
-        let _ = write_answer(&mut out[written..], number, code, shown);
+        let _ = write_answer(&mut out[written..], number, done.code, done.shown);
         events = number;
         written = end;
         at = next;
@@ -169,11 +169,9 @@ pub fn run(input: &[u8], out: &mut [u8], start: State, budget: u32) -> RunAnswer
         × (out.new ≡ out_after out.old (run_of budget (length out.old) input.now 0 start)) }
 {
     let known = sound_at_start(start);
-    let board = start.board;
-    let tree = start.tree;
-    let cpus = start.cpus;
+    // the rows are lent one by one
     let mut domains = start.domains;
-    let mut table = rows_of(cpus);
+    let mut table = rows_of(start.cpus);
     let mut rows = DomainRows {
         states: &mut domains.states,
         requests: &mut domains.requests,
@@ -189,23 +187,27 @@ pub fn run(input: &[u8], out: &mut [u8], start: State, budget: u32) -> RunAnswer
         contexts: &mut table.contexts,
     };
     let ran = run_rows(
-        input, out, budget, known, board, tree, start.mode, &mut rows, &mut lent,
+        input,
+        out,
+        budget,
+        known,
+        start.board,
+        start.tree,
+        start.mode,
+        &mut rows,
+        &mut lent,
     );
-    let events = ran.events;
-    let closing = ran.closing;
-    let written = ran.written;
-    let mode = ran.mode;
     let state = State {
-        board,
-        tree,
+        board: start.board,
+        tree: start.tree,
         cpus: table.view().table_of(),
         domains,
-        mode,
+        mode: ran.mode,
     };
     RunAnswer {
-        events,
-        closing,
-        written,
+        events: ran.events,
+        closing: ran.closing,
+        written: ran.written,
         state,
     }
 }

@@ -10,11 +10,8 @@ use model::state::State;
 pub(super) fn acted(mut state: State, cpu: CpuNumber, done: Step) -> CallAnswer
     ensures { result ≡ acted state cpu.0 (λ _ _. done) }
 {
-    let cpus = state.cpus;
-    let node = done.node;
-    let domains = done.domains;
-    state.cpus = with_cpu_record(cpus, cpu, node);
-    state.domains = domains;
+    state.cpus = with_cpu_record(state.cpus, cpu, done.node);
+    state.domains = done.domains;
     CallAnswer {
         code: Ok(()),
         out: done.out,

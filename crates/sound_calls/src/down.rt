@@ -23,16 +23,26 @@ use outgoing::{not_entered_out, refused};
 pub fn cpu_off(state: State, caller: CpuNumber, early_answer: u8) -> CallAnswer
     ensures { result ≡ cpu_off_of state caller early_answer }
 {
-    let cpus = state.cpus;
-    let tree = state.tree;
-    let rows = state.domains;
-    let p = state.board.platform;
-    let node = cpu_in(cpus, caller);
-    let code = for_caller(caller.0 < tree.cpu_count, node, of_answer(early_answer));
+    let node = cpu_in(state.cpus, caller);
+    let code = for_caller(
+        caller.0 < state.tree.cpu_count,
+        node,
+        of_answer(early_answer),
+    );
     if code.is_err() {
         return refused(state, code);
     }
-    acted(state, caller, turn_off(tree, rows, p, caller, node))
+    acted(
+        state,
+        caller,
+        turn_off(
+            state.tree,
+            state.domains,
+            state.board.platform,
+            caller,
+            node,
+        ),
+    )
 }
 
 // A suspend is entered where the code grants it, but not with an interrupt pending. The notice is what the SPM is told.
@@ -58,12 +68,17 @@ fn suspend(
             state,
         };
     }
-    let cpus = state.cpus;
-    let tree = state.tree;
-    let rows = state.domains;
-    let p = state.board.platform;
-    let node = cpu_in(cpus, caller);
-    let done = enter(tree, rows, p, caller, node, asked, entry, told);
+    let node = cpu_in(state.cpus, caller);
+    let done = enter(
+        state.tree,
+        state.domains,
+        state.board.platform,
+        caller,
+        node,
+        asked,
+        entry,
+        told,
+    );
     acted(state, caller, done)
 }
 
@@ -78,13 +93,9 @@ pub fn cpu_suspend_start(
 ) -> CallAnswer
     ensures { result ≡ cpu_suspend_start_of state caller pending entry asked }
 {
-    let cpus = state.cpus;
-    let tree = state.tree;
-    let p = state.board.platform;
-    let node = cpu_in(cpus, caller);
-    let mode = state.mode;
-    let own = suspend_code(p, mode, asked);
-    let code = for_caller(caller.0 < tree.cpu_count, node, own);
+    let node = cpu_in(state.cpus, caller);
+    let own = suspend_code(state.board.platform, state.mode, asked);
+    let code = for_caller(caller.0 < state.tree.cpu_count, node, own);
     suspend(
         state,
         caller,
@@ -109,14 +120,17 @@ pub fn system_suspend(
 ) -> CallAnswer
     ensures { result ≡ system_suspend_of state caller feature pending address_good entry asked }
 {
-    let cpus = state.cpus;
-    let tree = state.tree;
-    let p = state.board.platform;
-    let node = cpu_in(cpus, caller);
-    let last = others_off_in(cpus, tree.cpu_count, caller.0);
-    let mode = state.mode;
-    let own = system_suspend_code(p, mode, feature, last, address_good, asked);
-    let code = for_caller(caller.0 < tree.cpu_count, node, own);
+    let node = cpu_in(state.cpus, caller);
+    let last = others_off_in(state.cpus, state.tree.cpu_count, caller.0);
+    let own = system_suspend_code(
+        state.board.platform,
+        state.mode,
+        feature,
+        last,
+        address_good,
+        asked,
+    );
+    let code = for_caller(caller.0 < state.tree.cpu_count, node, own);
     suspend(
         state,
         caller,

@@ -29,8 +29,7 @@ pub fn cpu_on(
     let cpus = state.cpus;
     let count = state.tree.cpu_count;
     let node = cpu_in(cpus, target);
-    let affinity = node.affinity_info;
-    let own = on_code(answer, target.0 < count, address_good, affinity);
+    let own = on_code(answer, target.0 < count, address_good, node.affinity_info);
     let code = for_caller(caller.0 < count, cpu_in(cpus, caller), own);
     let granted = code.is_ok();
     if granted {
@@ -55,12 +54,16 @@ pub fn set_suspend_mode(
 ) -> CallAnswer
     ensures { result ≡ set_suspend_mode_of state caller feature mode }
 {
-    let cpus = state.cpus;
     let count = state.tree.cpu_count;
-    let last = others_off_in(cpus, count, caller.0);
-    let current = state.mode;
-    let own = mode_code(feature, current, mode, last, all_on_in(cpus, count));
-    let code = for_caller(caller.0 < count, cpu_in(cpus, caller), own);
+    let last = others_off_in(state.cpus, count, caller.0);
+    let own = mode_code(
+        feature,
+        state.mode,
+        mode,
+        last,
+        all_on_in(state.cpus, count),
+    );
+    let code = for_caller(caller.0 < count, cpu_in(state.cpus, caller), own);
     if code.is_ok() {
         return CallAnswer {
             code: Ok(()),

@@ -17,16 +17,16 @@ use outgoing::refused;
 pub fn cpu_suspend_finish(state: State, cpu: CpuNumber) -> CallAnswer
     ensures { result ≡ cpu_suspend_finish_of state cpu }
 {
-    let cpus = state.cpus;
-    let tree = state.tree;
-    let rows = state.domains;
-    let p = state.board.platform;
-    let node = cpu_in(cpus, cpu);
-    let code = for_cpu(cpu.0 < tree.cpu_count, finish_code(node));
+    let node = cpu_in(state.cpus, cpu);
+    let code = for_cpu(cpu.0 < state.tree.cpu_count, finish_code(node));
     if code.is_err() {
         return refused(state, code);
     }
-    acted(state, cpu, finish(tree, rows, p, cpu, node))
+    acted(
+        state,
+        cpu,
+        finish(state.tree, state.domains, state.board.platform, cpu, node),
+    )
 }
 
 // A CPU that is powered up: after CPU_ON, or from a suspend that lost its state.
@@ -34,14 +34,17 @@ pub fn cpu_suspend_finish(state: State, cpu: CpuNumber) -> CallAnswer
 pub fn handle_cpu_boot(state: State, cpu: CpuNumber) -> CallAnswer
     ensures { result ≡ handle_cpu_boot_of state cpu }
 {
-    let cpus = state.cpus;
-    let tree = state.tree;
-    let rows = state.domains;
-    let p = state.board.platform;
-    let node = cpu_in(cpus, cpu);
-    let code = for_cpu(cpu.0 < tree.cpu_count, boot_code(p, node));
+    let node = cpu_in(state.cpus, cpu);
+    let code = for_cpu(
+        cpu.0 < state.tree.cpu_count,
+        boot_code(state.board.platform, node),
+    );
     if code.is_err() {
         return refused(state, code);
     }
-    acted(state, cpu, boot(tree, rows, p, cpu, node))
+    acted(
+        state,
+        cpu,
+        boot(state.tree, state.domains, state.board.platform, cpu, node),
+    )
 }

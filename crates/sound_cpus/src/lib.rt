@@ -35,7 +35,7 @@ fn level_is(p: Platform, c: CompositeState, level: PowerLevel, state: u8) -> boo
     s == 0
 }
 
-// Have the levels up to MAX this state, and those above it 0?
+// Have the levels up to MAX this state, and those above it 0? The levels are a constant: the four lines are what `every` unfolds to.
 #[tactic(auto, unfolding(model::specs::Below::every))]
 fn levels_are(p: Platform, c: CompositeState, state: u8) -> bool
     ensures { result ≡ levels_areb p c state }
@@ -79,7 +79,7 @@ fn suspend_is(suspends: &[u8], below: u8, n: u8, cpu: CpuNumber) -> bool
     s == 0
 }
 
-// Has a CPU no suspend state up to level n, and 0 above?
+// Has a CPU no suspend state up to level n, and 0 above? The three lines are what `every` unfolds to, as in `levels_are`.
 #[tactic(auto, unfolding(model::specs::Below::every))]
 fn suspends_are(suspends: &[u8], n: u8, cpu: CpuNumber) -> bool
     ensures { result ≡ suspends_areb suspends.now n cpu.0 }
@@ -93,19 +93,18 @@ fn suspends_are(suspends: &[u8], n: u8, cpu: CpuNumber) -> bool
 fn cpu_used(p: Platform, c: CpuPowerNode, parent: u8, asked: CompositeState) -> bool
     ensures { result ≡ cpu_usedb p c parent asked }
 {
-    let a = c.affinity_info;
-    let e = c.entry_point;
-    let due = entry_due(p, a, c.local_state);
-    (c.parent.0 == parent) & states_in_range(p, asked) & asks(p, a, asked) & (is_held(e) == due)
+    let due = entry_due(p, c.affinity_info, c.local_state);
+    (c.parent.0 == parent)
+        & states_in_range(p, asked)
+        & asks(p, c.affinity_info, asked)
+        & (is_held(c.entry_point) == due)
 }
 
 // Are the record and the requests 0 where there is no CPU?
 fn cpu_unused(p: Platform, c: CpuPowerNode, asked: CompositeState) -> bool
     ensures { result ≡ cpu_unusedb p c asked }
 {
-    let a = c.affinity_info;
-    let e = c.entry_point;
-    (c.parent.0 == 0) & is_on(a) & !is_held(e) & levels_are(p, asked, 0)
+    (c.parent.0 == 0) & is_on(c.affinity_info) & !is_held(c.entry_point) & levels_are(p, asked, 0)
 }
 
 // What a CPU asks for: its state and, above it, its requests.

@@ -32,18 +32,12 @@ fn described(p: Platform, primary: CpuNumber, row: &[u8], domains: u8) -> TreeAn
 pub fn sound(s: State) -> bool
     ensures { result ≡ soundb s }
 {
-    let board = s.board;
-    let tree = s.tree;
-    let cpus = s.cpus;
-    let domains = s.domains;
-    let p = board.platform;
-    let made = described(p, board.primary, &board.topology, tree.domain_count);
-    let code = made.code;
-    let parents = made.cpu_parents;
-    let accepted = code.is_ok();
-    let fits = trees::same_tree(tree, made.tree);
-    let ends = trees::entries_end(&board.topology, tree.domain_count);
-    let all_cpus = cpus_sound(p, tree.cpu_count, cpus, parents, domains);
-    let all_domains = domains_sound(p, tree, domains);
+    let p = s.board.platform;
+    let made = described(p, s.board.primary, &s.board.topology, s.tree.domain_count);
+    let accepted = made.code.is_ok();
+    let fits = trees::same_tree(s.tree, made.tree);
+    let ends = trees::entries_end(&s.board.topology, s.tree.domain_count);
+    let all_cpus = cpus_sound(p, s.tree.cpu_count, s.cpus, made.cpu_parents, s.domains);
+    let all_domains = domains_sound(p, s.tree, s.domains);
     accepted & fits & ends & all_cpus & all_domains
 }

@@ -24,16 +24,14 @@ pub fn last_to_idle_at(s: State, level: PowerLevel, cpu: CpuNumber) -> Result<bo
     }
     let node = node_at(s, level, domain_over(s, level, cpu));
     let child = child_over(s, level, cpu);
-    let platform = s.board.platform;
-    is_last_cpu_to_idle(node, cpu, child, off(platform))
+    is_last_cpu_to_idle(node, cpu, child, off(s.board.platform))
 }
 
 // Is the CPU the last to idle at a level? 109 for a level above MAX.
 pub fn idle_query(s: State, cpu: CpuNumber, level: PowerLevel) -> Result<bool, Refusal>
     ensures { result ≡ cond (leb level.0 (max_at s)) (last_to_idle_at s level.0 cpu) (Err code.Outside) }
 {
-    let max = s.board.platform.max;
-    if max.0 < level.0 {
+    if s.board.platform.max.0 < level.0 {
         return Err(Refusal::Outside);
     }
     last_to_idle_at(s, level, cpu)
@@ -44,20 +42,16 @@ pub fn last_query(s: State, cpu: CpuNumber) -> Result<bool, Refusal>
     ensures { result ≡ cond (onb (cpu_at s cpu.0).affinity_info) (Ok (others_offb s cpu.0))
         (Err code.NotRunning) }
 {
-    let cpus = s.cpus;
-    let node = cpu_in(cpus, cpu);
-    let affinity = node.affinity_info;
-    if !is_on(affinity) {
+    let node = cpu_in(s.cpus, cpu);
+    if !is_on(node.affinity_info) {
         return Err(Refusal::NotRunning);
     }
-    Ok(others_off_in(cpus, s.tree.cpu_count, cpu.0))
+    Ok(others_off_in(s.cpus, s.tree.cpu_count, cpu.0))
 }
 
 // Is every CPU On?
 pub fn on_query(s: State) -> Result<bool, Refusal>
     ensures { result ≡ Ok (all_onb s) }
 {
-    let cpus = s.cpus;
-    let count = s.tree.cpu_count;
-    Ok(all_on_in(cpus, count))
+    Ok(all_on_in(s.cpus, s.tree.cpu_count))
 }

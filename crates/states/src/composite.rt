@@ -9,8 +9,7 @@ use model::states::{CompositeState, Platform};
 pub fn state_at(c: CompositeState, level: PowerLevel) -> u8
     ensures { result ≡ state_at c level.0 }
 {
-    let l = level.0;
-    match l {
+    match level.0 {
         0 => c.level0,
         1 => c.level1,
         2 => c.level2,

@@ -1,4 +1,4 @@
-ghost use Rattle.std.specs.Prelude.{Bool, ℕ, false, not, ◌∷◌, [], ◌≡◌, get_or};
+ghost use Rattle.std.specs.Prelude.{Bool, ℕ, not, ◌≡◌};
 ghost use Rattle.model.specs.Below.{highest};
 ghost use Rattle.model.specs.Composite.{find_highest_non_run_level_of, find_highest_power_down_level_of, is_valid_suspend_requestb};
 ghost use Rattle.model.specs.Composite.{kind_at, non_run_atb, power_down_atb};
@@ -10,42 +10,21 @@ use crate::kinds::{deeper, kind, power_down};
 use model::sorts::PowerLevel;
 use model::states::{CompositeState, Platform};
 
-// The highest level at which the flag is set.
-#[tactic(auto, unfolding(model::specs::Below::highest))]
-fn highest_set(at0: bool, at1: bool, at2: bool, at3: bool) -> Option<PowerLevel>
-    ensures { result ≡ highest levels (λ l. get_or (at0 ∷ at1 ∷ at2 ∷ at3 ∷ []) l false) }
-{
-    if at3 {
-        return Some(PowerLevel(3));
-    }
-    if at2 {
-        return Some(PowerLevel(2));
-    }
-    if at1 {
-        return Some(PowerLevel(1));
-    }
-    if at0 {
-        return Some(PowerLevel(0));
-    }
-    None
-}
-
-// The highest level at which a test holds.
-#[tactic(auto, unfolding(model::specs::Below::highest))]
+// The highest level at which a test holds: the walk is from the top level down.
 fn highest_at<F: Fn(PowerLevel) -> bool + Drop>(test: F) -> Option<PowerLevel>
     requires { F.IsAlwaysCallable test }
     ensures { (holds : ℕ → Bool) → ((level : PowerLevel) (x : Bool) → F.post test level x → x ≡ holds level.0)
         → result ≡ highest levels holds }
 {
-    highest_set(
-        test(PowerLevel(0)),
-        test(PowerLevel(1)),
-        test(PowerLevel(2)),
-        test(PowerLevel(3)),
-    )
+    for level in (0..4).rev() {
+        if test(PowerLevel(level)) {
+            return Some(PowerLevel(level));
+        }
+    }
+    None
 }
 
-// Is this a level up to MAX that is not RUN?
+// Is this a level up to MAX that is not RUN? It and `power_down_at` differ in the test of a state alone.
 fn non_run_at(p: Platform, c: CompositeState, level: PowerLevel) -> bool
     ensures { result ≡ non_run_atb p c level.0 }
 {

@@ -25,10 +25,9 @@ pub fn run_text<'a>(
     ensures { Put text.old 0
         (board_line s ++ answer_lines (max_at s) events answers.now ++ end_line events closing) text.new result }
 {
-    let max = s.board.platform.max;
     let mut page = Page { text, at: 0 };
     page.board(s);
-    page.answers(answers, events, max);
+    page.answers(answers, events, s.board.platform.max);
     page.end(events, closing);
     page.at
 }

@@ -106,12 +106,10 @@ pub fn started(bytes: &[u8]) -> CallAnswer
     ensures { result ≡ started_of (start_of bytes.now) }
 {
     let begun = start(bytes);
-    let code = begun.code;
-    let state = begun.state;
     CallAnswer {
-        code,
+        code: begun.code,
         out: nothing_out(),
-        state,
+        state: begun.state,
     }
 }
 
@@ -119,8 +117,7 @@ pub fn started(bytes: &[u8]) -> CallAnswer
 pub fn event(state: State, bytes: &[u8]) -> CallAnswer
     ensures { result ≡ event_of state (read_of state.board.platform.max.0 bytes.now) }
 {
-    let max = state.board.platform.max;
-    let Read::Event(made, next) = read_record(bytes, max) else {
+    let Read::Event(made, next) = read_record(bytes, state.board.platform.max) else {
         return CallAnswer {
             code: Err(Refusal::Malformed),
             out: nothing_out(),

@@ -12,7 +12,8 @@ use traced_bytes::out::{handed_byte, head_byte, notices_byte};
 use traced_bytes::queries::{all_on_byte, allowed_byte, beside_byte, last_byte, last_to_idle_byte};
 use traced_bytes::stored::{board_byte, counts_byte, cpus_byte, state_mode_byte};
 
-// What stands in a table, by row and column.
+// What stands in a table, by row and column. A match and no table of functions: `rt ci` refuses function pointers that are handed
+// out, and the definition `cell_of` goes by these names.
 #[tactic(auto, unfolding(crate::specs::Reply::cell_of))]
 fn cell(a: CallAnswer, table: Table, row: u8, column: u8) -> u8
     ensures { result ≡ cell_of a table row column }

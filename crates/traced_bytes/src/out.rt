@@ -16,6 +16,7 @@ pub fn flag_byte(flag: bool) -> u8
     u8::from(flag)
 }
 
+// The numbers of a reply; an Option has none.
 pub fn wake_byte(wake: Option<WakeUpReason>) -> u8
     ensures { result ≡ wake_byte wake }
 {
@@ -45,7 +46,7 @@ fn point_byte(kind: u8, e: EntryPoint, i: usize) -> u8
     at(&bytes, i)
 }
 
-// A byte of an entry.
+// A byte of an entry. In a reply 0 or 1 goes first: an Option has no number.
 pub fn entry_byte(entry: Option<EntryPoint>, i: usize) -> u8
     ensures { result ≡ entry_byte entry i }
 {

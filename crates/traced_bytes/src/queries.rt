@@ -59,9 +59,8 @@ fn asked_node(s: State, k: u8, c: u8, child: Option<DomainNumber>) -> u8
     ensures { result ≡ asked_node s k c child }
 {
     let domain = DomainNumber(k);
-    let tree = s.tree;
     let platform = s.board.platform;
-    let level = level_of(&tree.parents, platform.max, domain);
+    let level = level_of(&s.tree.parents, platform.max, domain);
     let node = node_at(s, level, domain);
     state_byte(get_osi_minimal_allowed_state_without_core(node, CpuNumber(c), child, off(platform)))
 }
@@ -79,17 +78,15 @@ pub fn allowed_byte(s: State, k: u8, c: u8) -> u8
 fn below(s: State, k: u8) -> bool
     ensures { result ≡ belowb s k }
 {
-    let tree = s.tree;
-    let parent = parent_byte(&tree.parents, k);
-    (k < tree.domain_count) & (parent != NO_PARENT)
+    let parent = parent_byte(&s.tree.parents, k);
+    (k < s.tree.domain_count) & (parent != NO_PARENT)
 }
 
 pub fn beside_byte(s: State, k: u8, c: u8) -> u8
     ensures { result ≡ beside_byte s k c }
 {
     if below(s, k) & (c < s.tree.cpu_count) {
-        let tree = s.tree;
-        let parent = parent_byte(&tree.parents, k);
+        let parent = parent_byte(&s.tree.parents, k);
         return asked_node(s, parent, c, Some(DomainNumber(k)));
     }
     0

@@ -8,4 +8,4 @@ abbrev pub invariant-loop-below : goal.invariant-loop-below
 invariant-loop-below l =
     (l.d ≡ above_of l.tree.parents l.fn.first.0 l.below)
     × (coordinated l.states l.requests l.copies l.v
-    ≡ levels_coordinated_of l.tree l.off l.fn.first.0 l.cpu.0 l.top l.below (coordinated l.initial.states l.initial.requests l.initial.copies l.fn.asked))
+    ≡ levels_coordinated_of l.tree l.off l.fn.first.0 l.cpu.0 l.fn.upto.0 l.below (coordinated l.initial.states l.initial.requests l.initial.copies l.fn.asked))

@@ -1,6 +1,6 @@
 use Rattle.std.proofs.Common.{replicate}
 use Rattle.model.proofs.Tables.{filled_none, filled_turn}
-use Rattle.fresh.proofs.off.table.Goals as goal
+use Rattle.lend.proofs.table.table.Goals as goal
 
 pub loop-k-init : goal.loop-k-init
 loop-k-init g c e gives = filled_none e 0 (replicate g.row.N c.args.nothing)
