@@ -23,7 +23,7 @@ fn is(node: NonCpuPowerNode, child: Option<DomainNumber>, wanted: i32, state: u8
 
 // Is the query without this CPU answered with 109?
 fn outside(cpu: u8) -> bool {
-    without(domain(), cpu, None) == Err(Refusal::Outside)
+    without(domain(), cpu, None).is_err_and(|refusal| number(Err(refusal)) == 109)
 }
 
 // Is CPU 4 the last to idle?

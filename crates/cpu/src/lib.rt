@@ -3,8 +3,9 @@
 
 ghost use Rattle.std.specs.Prelude.{◌≡◌};
 ghost use Rattle.model.specs.Cpu.{affinity_info_of, heldb, local_state_of, new_of, onb, pendingb, pop_entry_point_of};
-ghost use Rattle.model.specs.Cpu.{set_affinity_info_of, set_local_state_of};
+ghost use Rattle.model.specs.Cpu.{set_affinity_info_of, set_entry_point_of, set_local_state_of};
 
+use model::code::Refusal;
 use model::cpu::{AffinityInfo, CpuPowerNode, EntryPoint};
 use model::sorts::DomainNumber;
 
@@ -49,6 +50,23 @@ pub fn set_local_state(cpu: CpuPowerNode, local_state: u8) -> CpuPowerNode
     ensures { result ≡ set_local_state_of cpu local_state }
 {
     CpuPowerNode { local_state, ..cpu }
+}
+
+// Keeps an entry, and gives the record back beside the answer; where one is held that one stays, and the answer is 102.
+pub fn set_entry_point(
+    cpu: CpuPowerNode,
+    entry_point: EntryPoint,
+) -> (Result<(), Refusal>, CpuPowerNode)
+    ensures { result ≡ ((set_entry_point_of cpu entry_point).code, (set_entry_point_of cpu entry_point).cpu) }
+{
+    let kept = CpuPowerNode {
+        entry_point: Some(entry_point),
+        ..cpu
+    };
+    if is_held(cpu.entry_point) {
+        return (Err(Refusal::NotSound), cpu);
+    }
+    (Ok(()), kept)
 }
 
 // Hands out the entry, and clears it.

@@ -1,4 +1,5 @@
-// Tables of CPU records: a read and a store that no number can break.
+// Tables of CPU records: a read and a store that no number can break. By themselves, and not by `at_or` and `with` of `rows`: lent to
+// the one, or handed on to the other, the whole table would be copied once more.
 #![tactic(auto)]
 
 ghost use Rattle.std.specs.Prelude.{◌≡◌, get_or, set};
@@ -7,8 +8,6 @@ ghost use Rattle.model.specs.State.{no_cpu};
 use model::cpu::{AffinityInfo, CpuPowerNode};
 use model::limits::CPUS;
 use model::sorts::{CpuNumber, DomainNumber};
-use rows::cells::at_or;
-use rows::tables::with;
 
 // The record in a slot where there is no CPU.
 pub fn no_cpu() -> CpuPowerNode
@@ -26,7 +25,11 @@ pub fn no_cpu() -> CpuPowerNode
 pub fn cpu_in(cpus: [CpuPowerNode; CPUS], cpu: CpuNumber) -> CpuPowerNode
     ensures { result ≡ get_or cpus cpu.0 no_cpu }
 {
-    at_or(&cpus, cpu.0 as usize, no_cpu())
+    let i = cpu.0 as usize;
+    if i < CPUS {
+        return cpus[i];
+    }
+    no_cpu()
 }
 
 // The table after a store; past its end nothing is stored.
@@ -37,5 +40,10 @@ pub fn with_cpu_record(
 ) -> [CpuPowerNode; CPUS]
     ensures { result ≡ set cpus cpu.0 node }
 {
-    with(cpus, cpu.0 as usize, node)
+    let mut next = cpus;
+    let i = cpu.0 as usize;
+    if i < CPUS {
+        next[i] = node;
+    }
+    next
 }

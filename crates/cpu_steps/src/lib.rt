@@ -5,7 +5,7 @@ ghost use Rattle.std.specs.Prelude.{◌≡◌};
 ghost use Rattle.model.specs.Steps.{booted_of, finished_of, pended_of, suspended_of, turned_off};
 
 use composite::is_down;
-use cpu::{set_affinity_info, set_local_state};
+use cpu_lent::setters::{set_affinity_info, set_local_state};
 use model::cpu::{AffinityInfo, CpuPowerNode, EntryPoint};
 use model::states::{CompositeState, Platform};
 use states::composite::cpu_level_state;
@@ -15,18 +15,22 @@ use states::platform::off;
 pub fn pended(node: CpuPowerNode, entry: EntryPoint) -> CpuPowerNode
     ensures { result ≡ pended_of node entry }
 {
-    let pending = set_affinity_info(node, AffinityInfo::OnPending);
-    CpuPowerNode {
+    let mut pending = CpuPowerNode {
         entry_point: Some(entry),
-        ..pending
-    }
+        ..node
+    };
+    set_affinity_info(&mut pending, AffinityInfo::OnPending);
+    pending
 }
 
 // Off: the CPU state is OFF, the affinity Off.
 pub fn turned_off(p: Platform, node: CpuPowerNode) -> CpuPowerNode
     ensures { result ≡ turned_off p node }
 {
-    set_affinity_info(set_local_state(node, off(p)), AffinityInfo::Off)
+    let mut off_now = node;
+    set_local_state(&mut off_now, off(p));
+    set_affinity_info(&mut off_now, AffinityInfo::Off);
+    off_now
 }
 
 // Suspend: the CPU state becomes the level-0 state; if that is power-down, the entry is kept.
@@ -44,11 +48,12 @@ pub fn suspended(
     } else {
         node.entry_point
     };
-    let holder = CpuPowerNode {
+    let mut asleep = CpuPowerNode {
         entry_point,
         ..node
     };
-    set_local_state(holder, state)
+    set_local_state(&mut asleep, state);
+    asleep
 }
 
 // Finish: the CPU is RUN; a power-down suspend drops the entry.
@@ -60,20 +65,23 @@ pub fn finished(p: Platform, node: CpuPowerNode) -> CpuPowerNode
     } else {
         node.entry_point
     };
-    let holder = CpuPowerNode {
+    let mut awake = CpuPowerNode {
         entry_point,
         ..node
     };
-    set_local_state(holder, 0)
+    set_local_state(&mut awake, 0);
+    awake
 }
 
 // Boot: the CPU is On and RUN, and its entry is cleared.
 pub fn booted(node: CpuPowerNode) -> CpuPowerNode
     ensures { result ≡ booted_of node }
 {
-    let cleared = CpuPowerNode {
+    let mut up = CpuPowerNode {
         entry_point: None,
         ..node
     };
-    set_local_state(set_affinity_info(cleared, AffinityInfo::On), 0)
+    set_affinity_info(&mut up, AffinityInfo::On);
+    set_local_state(&mut up, 0);
+    up
 }

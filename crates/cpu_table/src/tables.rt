@@ -33,7 +33,9 @@ pub fn rows_of(cpus: [CpuPowerNode; CPUS]) -> CpuRows
     let mut helds = [0; CPUS];
     let mut addresses = [0; CPUS];
     let mut contexts = [0; CPUS];
-    for (c, node) in cpus.iter().enumerate() {
+    // by number: lent to an iterator, the table would be copied
+    for c in 0..CPUS {
+        let node = cpus[c];
         firsts[c] = node.parent.0;
         affinities[c] = affinity_byte(node.affinity_info);
         locals[c] = node.local_state;

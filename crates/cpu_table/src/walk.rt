@@ -3,8 +3,6 @@ ghost use Rattle.std.specs.Prelude.{◌||◌, ◌≡◌, eqb};
 ghost use Rattle.cpu_table.specs.CpuTable.{all_on_bytes, others_off_bytes};
 
 use image::affinity_in;
-use lend::every::every;
-use lend::every_with::every_with;
 use model::cpu::AffinityInfo;
 use model::limits::CPUS;
 use rows::cells::at;
@@ -27,12 +25,22 @@ fn on(a: u8) -> bool
 pub fn others_off(affinities: &[u8; CPUS], count: u8, but: u8) -> bool
     ensures { result ≡ others_off_bytes affinities.now count but }
 {
-    every_with(affinities, count as usize, but, at, off_but)
+    for c in 0..count as usize {
+        if !off_but(at(affinities, c), c, but) {
+            return false;
+        }
+    }
+    true
 }
 
 // Is every CPU of the first so many On?
 pub fn all_on(affinities: &[u8; CPUS], count: u8) -> bool
     ensures { result ≡ all_on_bytes affinities.now count }
 {
-    every(affinities, count as usize, at, on)
+    for c in 0..count as usize {
+        if !on(at(affinities, c)) {
+            return false;
+        }
+    }
+    true
 }

@@ -6,8 +6,6 @@ ghost use Rattle.model.specs.StateQuery.{all_on_in, others_off_in};
 
 use cpu::is_on;
 use cpu_rows::no_cpu;
-use lend::every::every;
-use lend::every_with::every_with;
 use model::cpu::{AffinityInfo, CpuPowerNode};
 use rows::cells::at_or;
 
@@ -43,12 +41,22 @@ pub fn cpu_at(cpus: &[CpuPowerNode], c: usize) -> CpuPowerNode
 pub fn others_off(cpus: &[CpuPowerNode], count: usize, cpu: usize) -> bool
     ensures { result ≡ others_off_in cpus.now count cpu }
 {
-    every_with(cpus, count, cpu, cpu_at, off_but)
+    for c in 0..count {
+        if !off_but(cpu_at(cpus, c), c, cpu) {
+            return false;
+        }
+    }
+    true
 }
 
 // Is every CPU of the first so many On?
 pub fn all_on(cpus: &[CpuPowerNode], count: usize) -> bool
     ensures { result ≡ all_on_in cpus.now count }
 {
-    every(cpus, count, cpu_at, on)
+    for c in 0..count {
+        if !on(cpu_at(cpus, c)) {
+            return false;
+        }
+    }
+    true
 }

@@ -7,7 +7,7 @@ ghost use Rattle.std.specs.Prelude.{◌≡◌};
 ghost use Rattle.model.specs.Fresh.{all_off_of, brought_up, fresh_of, no_state};
 ghost use Rattle.model.specs.Tree.{cpu_parents_of, tree_of};
 
-use cpu::{set_affinity_info, set_local_state};
+use cpu_lent::setters::{set_affinity_info, set_local_state};
 use cpu_rows::{cpu_in, no_cpu, with_cpu_record};
 use levels::levels_filled;
 use model::board::{Board, Tree};
@@ -63,8 +63,9 @@ fn all_off(
 fn bring_up(s: State, cpu: CpuNumber) -> State
     ensures { result ≡ brought_up s cpu.0 }
 {
-    let node = cpu_in(s.cpus, cpu);
-    let running = set_local_state(set_affinity_info(node, AffinityInfo::On), 0);
+    let mut running = cpu_in(s.cpus, cpu);
+    set_affinity_info(&mut running, AffinityInfo::On);
+    set_local_state(&mut running, 0);
     let cpus = with_cpu_record(s.cpus, cpu, running);
     let domains = running_domains(s.tree, s.domains, s.board.platform.max, running.parent, cpu);
     State { cpus, domains, ..s }

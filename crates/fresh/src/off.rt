@@ -1,4 +1,4 @@
-ghost use Rattle.std.specs.Prelude.{cond, ◌≡◌, eqb, get_or, length};
+ghost use Rattle.std.specs.Prelude.{cond, ◌≡◌, eqb, get_or, length, ℕ};
 ghost use Rattle.model.specs.Cpu.{new_of};
 ghost use Rattle.model.specs.Limits.{cpu_limit, entry_limit};
 ghost use Rattle.model.specs.State.{no_cpu};
@@ -7,7 +7,6 @@ ghost use Rattle.model.specs.Tree.{no_parent};
 
 use cpu::new;
 use cpu_rows::no_cpu;
-use lend::table::table;
 use levels::fill;
 use model::board::NO_PARENT;
 use model::cpu::CpuPowerNode;
@@ -25,6 +24,19 @@ pub(super) fn stored(topology: &[u8]) -> [u8; ENTRIES]
         put(&mut row, i, *entry);
     }
     row
+}
+
+// A table in which so many places are used, and the rest hold what stands for nothing. What is past its end is dropped.
+fn table<T: Copy, const N: usize, F: Fn(u8) -> T + Drop>(nothing: T, count: u8, entry: F) -> [T; N]
+    requires { F.IsAlwaysCallable entry }
+    ensures { (e : ℕ → T) → ((k : ℕ) (x : T) → F.post entry k x → x ≡ e k) → result ≡ table_of N nothing e count }
+{
+    let mut table = [nothing; N];
+    // a number, since `entry` takes it
+    for k in 0..count {
+        put(&mut table, k as usize, entry(k));
+    }
+    table
 }
 
 // Every CPU Off, in state OFF, with no entry point.

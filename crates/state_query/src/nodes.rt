@@ -48,14 +48,17 @@ pub fn child_span_at(tree: Tree, domain: DomainNumber) -> Span
 pub fn node_at(s: State, level: PowerLevel, domain: DomainNumber) -> NonCpuPowerNode
     ensures { result ≡ node_at s level.0 domain.0 }
 {
+    // two parts by name: lent from the state, their rows would have the whole of it copied
+    let tree = s.tree;
+    let domains = s.domains;
     NonCpuPowerNode {
-        parent: parent_of_byte(parent_byte(&s.tree.parents, domain.0)),
-        local_state: at(&s.domains.states, domain.0 as usize),
-        cpu_range: cpu_span_at(s.tree, domain),
-        non_cpu_range: child_span_at(s.tree, domain),
-        requested_states: level_row(&s.domains.requests, level),
-        suspend_states: level_row(&s.domains.suspends, level),
-        non_cpu_states: s.domains.copies,
+        parent: parent_of_byte(parent_byte(&tree.parents, domain.0)),
+        local_state: at(&domains.states, domain.0 as usize),
+        cpu_range: cpu_span_at(tree, domain),
+        non_cpu_range: child_span_at(tree, domain),
+        requested_states: level_row(&domains.requests, level),
+        suspend_states: level_row(&domains.suspends, level),
+        non_cpu_states: domains.copies,
     }
 }
 
@@ -64,7 +67,8 @@ pub fn domain_over(s: State, level: PowerLevel, cpu: CpuNumber) -> DomainNumber
     ensures { result ≡ record { 0 = domain_over s level.0 cpu.0 } }
 {
     let node = cpu_in(s.cpus, cpu);
-    on_path(&s.tree.parents, node.parent, level)
+    let parents = s.tree.parents;
+    on_path(&parents, node.parent, level)
 }
 
 // The domain below the one of a level on a CPU's path; below level 1 there is none.

@@ -1,20 +1,32 @@
-ghost use Rattle.std.specs.Prelude.{◌≡◌};
-ghost use Rattle.model.specs.Table.{domain_row_of};
+ghost use Rattle.std.specs.Prelude.{◌≡◌, ℕ};
+ghost use Rattle.model.specs.Table.{domain_row_of, table_of};
 ghost use Rattle.model.specs.Topology.{cpu_node_of, domains_of, parent_of};
 ghost use Rattle.model.specs.Tree.{child_span_of, cpu_parents_of, parent_byte_of};
 
 use crate::accept::Topology;
-use lend::table::table;
 use model::limits::{CPUS, DOMAINS};
 use model::node::Span;
+use rows::cells::put;
+
+// A row of bytes: the first places, so many as are asked for, hold what a function gives for their numbers, the others 0.
+fn row<const N: usize, F: Fn(u8) -> u8 + Drop>(count: u8, byte: F) -> [u8; N]
+    requires { F.IsAlwaysCallable byte }
+    ensures { (b : ℕ → ℕ) → ((k x : ℕ) → F.post byte k x → x ≡ b k) → result ≡ table_of N 0 b count }
+{
+    let mut row = [0; N];
+    // a number, since `byte` takes it
+    for k in 0..count {
+        put(&mut row, k as usize, byte(k));
+    }
+    row
+}
 
 impl<'a> Topology<'a> {
     // The row of the domains' parents.
     pub(super) fn parents(&self) -> [u8; DOMAINS]
         ensures { result ≡ domain_row_of (parent_byte_of self.now.entries) (domains_of self.now.entries self.now.max) }
     {
-        table(
-            0,
+        row(
             self.domain_count(),
             |k| self.entries.parent_byte(k as usize),
         )
@@ -39,8 +51,14 @@ impl<'a> Topology<'a> {
         ensures ends { result.1 ≡ domain_row_of (λ k. (child_span_of self.now.entries self.now.max k).end)
             (domains_of self.now.entries self.now.max) }
     {
-        let starts = table(0, self.domain_count(), |k| self.child_span(k).start);
-        let ends = table(0, self.domain_count(), |k| self.child_span(k).end);
+        let mut starts = [0; DOMAINS];
+        let mut ends = [0; DOMAINS];
+        // a loop, so that each span is found once
+        for k in 0..self.domain_count() {
+            let span = self.child_span(k);
+            put(&mut starts, k as usize, span.start);
+            put(&mut ends, k as usize, span.end);
+        }
         (starts, ends)
     }
 
@@ -57,6 +75,6 @@ impl<'a> Topology<'a> {
     pub(super) fn cpu_parents(&self) -> [u8; CPUS]
         ensures { result ≡ cpu_parents_of self.now.entries self.now.max }
     {
-        table(0, self.cpu_count(), |cpu| self.cpu_parent(cpu))
+        row(self.cpu_count(), |cpu| self.cpu_parent(cpu))
     }
 }

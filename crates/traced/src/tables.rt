@@ -1,6 +1,7 @@
 // The tables of a reply, laid into it one after the other.
 ghost use Rattle.std.specs.Prelude.{◌≡◌};
 ghost use Rattle.model.specs.Table.{filled_of};
+ghost use Rattle.script.specs.Bytes.{byte_at};
 ghost use Rattle.traced.specs.Reply.{cell_of, rows_onto};
 
 use crate::table::Table;
@@ -11,6 +12,13 @@ use states::composite::state_at;
 use traced_bytes::out::{handed_byte, head_byte, notices_byte};
 use traced_bytes::queries::{all_on_byte, allowed_byte, beside_byte, last_byte, last_to_idle_byte};
 use traced_bytes::stored::{board_byte, counts_byte, cpus_byte, state_mode_byte};
+
+// A byte of a row. By value: lent from the answer, the row would have the whole answer copied for each byte.
+fn row_byte<const N: usize>(row: [u8; N], i: usize) -> u8
+    ensures { result ≡ byte_at row.entry i }
+{
+    at(&row, i)
+}
 
 // What stands in a table, by row and column. A match and no table of functions: `rt ci` refuses function pointers that are handed
 // out, and the definition `cell_of` goes by these names.
@@ -25,18 +33,18 @@ fn cell(a: CallAnswer, table: Table, row: u8, column: u8) -> u8
         Table::States => state_at(a.out.states, PowerLevel(column)),
         Table::Notices => notices_byte(a.out, row, i),
         Table::Board => board_byte(a.state.board, i),
-        Table::Topology => at(&a.state.board.topology, i),
+        Table::Topology => row_byte(a.state.board.topology, i),
         Table::Counts => counts_byte(a.state.tree, i),
-        Table::Parents => at(&a.state.tree.parents, i),
-        Table::CpuStarts => at(&a.state.tree.cpu_starts, i),
-        Table::CpuEnds => at(&a.state.tree.cpu_ends, i),
-        Table::ChildStarts => at(&a.state.tree.child_starts, i),
-        Table::ChildEnds => at(&a.state.tree.child_ends, i),
+        Table::Parents => row_byte(a.state.tree.parents, i),
+        Table::CpuStarts => row_byte(a.state.tree.cpu_starts, i),
+        Table::CpuEnds => row_byte(a.state.tree.cpu_ends, i),
+        Table::ChildStarts => row_byte(a.state.tree.child_starts, i),
+        Table::ChildEnds => row_byte(a.state.tree.child_ends, i),
         Table::Cpus => cpus_byte(a.state, row, i),
-        Table::DomainStates => at(&a.state.domains.states, i),
-        Table::Requests => at(&a.state.domains.requests, i),
-        Table::Suspends => at(&a.state.domains.suspends, i),
-        Table::Copies => at(&a.state.domains.copies, i),
+        Table::DomainStates => row_byte(a.state.domains.states, i),
+        Table::Requests => row_byte(a.state.domains.requests, i),
+        Table::Suspends => row_byte(a.state.domains.suspends, i),
+        Table::Copies => row_byte(a.state.domains.copies, i),
         Table::Mode => state_mode_byte(a.state),
         Table::AllOn => all_on_byte(a.state),
         Table::IsLast => last_byte(a.state, column),

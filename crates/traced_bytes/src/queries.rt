@@ -60,7 +60,8 @@ fn asked_node(s: State, k: u8, c: u8, child: Option<DomainNumber>) -> u8
 {
     let domain = DomainNumber(k);
     let platform = s.board.platform;
-    let level = level_of(&s.tree.parents, platform.max, domain);
+    let parents = s.tree.parents;
+    let level = level_of(&parents, platform.max, domain);
     let node = node_at(s, level, domain);
     state_byte(get_osi_minimal_allowed_state_without_core(node, CpuNumber(c), child, off(platform)))
 }
@@ -78,7 +79,8 @@ pub fn allowed_byte(s: State, k: u8, c: u8) -> u8
 fn below(s: State, k: u8) -> bool
     ensures { result ≡ belowb s k }
 {
-    let parent = parent_byte(&s.tree.parents, k);
+    let parents = s.tree.parents;
+    let parent = parent_byte(&parents, k);
     (k < s.tree.domain_count) & (parent != NO_PARENT)
 }
 
@@ -86,7 +88,8 @@ pub fn beside_byte(s: State, k: u8, c: u8) -> u8
     ensures { result ≡ beside_byte s k c }
 {
     if below(s, k) & (c < s.tree.cpu_count) {
-        let parent = parent_byte(&s.tree.parents, k);
+        let parents = s.tree.parents;
+        let parent = parent_byte(&parents, k);
         return asked_node(s, parent, c, Some(DomainNumber(k)));
     }
     0

@@ -5,4 +5,4 @@ use Rattle.cpu_table.proofs.tables.rows_of.Given as goal
 
 abbrev pub invariant-loop-c : goal.invariant-loop-c
 invariant-loop-c l =
-    Walked l.fn.cpus l.c (cpu_table l.firsts l.affinities l.locals l.helds l.addresses l.contexts)
+    Walked l.cpus l.c (cpu_table l.firsts l.affinities l.locals l.helds l.addresses l.contexts)

@@ -1,17 +1,21 @@
--- The law of a walk, at the test that a CPU is On.
-use Rattle.std.proofs.Common.{ℕ, List, eqb, get_or, rules, sym}
-use Rattle.model.proofs.Below.{every_fails, every_none, every_pass}
-use Rattle.cpu_table.specs.CpuTable.{all_on_bytes}
+-- A walk over the first c that leaves at the first CPU that is not On.
+use Rattle.std.proofs.Common.{ℕ, Bool, ap, eqb, sym, ◌∙◌, get_or, List}
+use Rattle.model.proofs.Below.{every_none, every_pass, every_fails}
 use Rattle.cpu_table.proofs.walk.all_on.Goals as goal
 
-pub returns : goal.returns
-returns c =
-    let test = λ (row : List ℕ) (i : ℕ). eqb (get_or row i 0) 0 in
-    c.every.ensures 0 (λ a. eqb a 0) (λ row n. all_on_bytes row n)
-    (record {
-      none = λ row. sym (every_none (test row));
-      pass = λ row i h k. every_pass (test row) i h k;
-      fail = λ row n i h k. every_fails (test row) n i h k;
-    })
-    (λ i h lent r e post. search rules)
-    (λ i h r post. search rules)
+-- the test of a place
+abbrev passes : List ℕ → ℕ → Bool
+passes row c = eqb (get_or row c 0) 0
+
+pub loop-c-init : goal.loop-c-init
+loop-c-init c = every_none (passes c.args.affinities.now)
+
+pub returns-then-not-on : goal.returns-then-not-on
+returns-then-not-on c =
+    sym (every_fails (passes c.args.affinities.now) c.args.count c.loop-c.c c.loop-c-test.true
+    (ap (λ (x : ℕ). eqb x 0) (sym c.at.ensures) ∙ sym c.on.ensures ∙ c.if-not-on.true))
+
+pub loop-c-preserved : goal.loop-c-preserved
+loop-c-preserved c =
+    sym (every_pass (passes c.args.affinities.now) c.loop-c.c (sym c.loop-c.invariant)
+    (ap (λ (x : ℕ). eqb x 0) (sym c.at.ensures) ∙ sym c.on.ensures ∙ c.if-not-on.false))
