@@ -15,9 +15,7 @@ fn entry(address: u64) -> EntryPoint {
 
 // A CPU that holds the entry at 4096.
 fn holder() -> CpuPowerNode {
-    let mut cpu = new(DomainNumber(1), 3);
-    let _ = set_entry_point(&mut cpu, entry(4096));
-    cpu
+    cpu::set_entry_point(new(DomainNumber(1), 3), entry(4096)).1
 }
 
 fn run_held() {
